@@ -1,0 +1,4 @@
+pub mod Exp
+pub mod Rounding
+pub mod Shift
+pub mod Whole

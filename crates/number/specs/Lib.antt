@@ -1,0 +1,4 @@
+pub mod Ops
+pub mod Number
+pub mod Order
+pub mod Rounding

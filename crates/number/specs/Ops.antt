@@ -1,0 +1,22 @@
+-- The operations of f64, each rounded to the nearest double, and decimal constants. Definitions only.
+use Prim.Native.Nat.{ℕ}
+use mathlib.Core.Bool.{false}
+use lib.Ieee.{Float, binary64, round, add, sub, mul, div}
+
+infixl 65 _⊕_ _⊖_
+infixl 70 _⊗_ _⊘_
+abbrev pub _⊕_ : Float → Float → Float
+x ⊕ y = add binary64 x y
+
+abbrev pub _⊖_ : Float → Float → Float
+x ⊖ y = sub binary64 x y
+
+abbrev pub _⊗_ : Float → Float → Float
+x ⊗ y = mul binary64 x y
+
+abbrev pub _⊘_ : Float → Float → Float
+x ⊘ y = div binary64 x y
+
+-- n / d, rounded to the nearest double: the value of a decimal literal
+abbrev pub dec : ℕ → ℕ → Float
+dec n d = round binary64 false n d

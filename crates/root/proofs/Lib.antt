@@ -1,0 +1,7 @@
+pub mod Steps
+pub mod Correcting
+pub mod NotNan
+pub mod Aligning
+pub mod Patterns
+pub mod Rooted
+pub mod Special

@@ -1,0 +1,5 @@
+pub mod Root
+pub mod Inner
+pub mod Halfway
+pub mod Nearest
+pub mod Finite

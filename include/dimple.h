@@ -1,0 +1,40 @@
+/* The doors of the crate capi, for C, Rust and Python. Link libcapi.a (rt staticlib capi, x86-64 Linux) or the shared object that
+ * python/build makes of it. Lengths count doubles, or bytes for a sheet and an input. Buffers must not overlap. No door keeps a pointer.
+ * Answers: 0, or a number of document 01 (README.md has the table). 100 and up are the doors' own. */
+#ifndef DIMPLE_H
+#define DIMPLE_H
+
+#include <stddef.h>
+#include <stdint.h>
+
+#ifdef __cplusplus
+extern "C" {
+#endif
+
+/* Settles a landing. input: 240 bytes, then the sheet, as the program settle reads them: dt, stop_speed, roll_threshold, min_hop_height,
+ * max_time, max_impacts and step_limit (u64), the ball (12), density, the landing (time, pos, vel, spin), 8 bytes a field, little-endian.
+ * contacts: 20 doubles a record (time, pos, normal, surface number, vel_in, vel_out, spin_in, spin_out).
+ * points: 11 doubles a record (time, pos, vel, spin, phase: 0 hop, 1 slide, 2 roll).
+ * result, where it has room for 19, gets: answer; termination (0 none, 1 rest, 2 time, 3 impacts); contacts, points, steps; the final state
+ * (time, pos, vel, spin); the rectangle (least x, greatest x, least z, greatest z). A longer result keeps its tail, a shorter one is untouched.
+ * Answers: 0, 12, 8, 1 to 7, 20 to 23. */
+uint32_t dimple_settle(const uint8_t *input, size_t input_len, double *contacts, size_t contacts_len,
+                       double *points, size_t points_len, double *result, size_t result_len);
+
+/* One ground step. physics: dt, stop_speed, roll_threshold (3). ball: 12. state: time, pos, vel, spin, phase (11).
+ * The state is changed on answer 0 alone; the phase is written always, 0 on a number. 100: a length is not the one named, nothing is touched. */
+uint32_t dimple_step(const uint8_t *sheet, size_t sheet_len, const double *physics, size_t physics_len,
+                     const double *ball, size_t ball_len, double *state, size_t state_len);
+
+/* One impact on the ground under the state. ball: 12. state: 10. Changed on answer 0 alone. 100 as above. */
+uint32_t dimple_impact(const uint8_t *sheet, size_t sheet_len, const double *ball, size_t ball_len,
+                       double *state, size_t state_len);
+
+/* The height at a spot into height (1), or +0 with the number. 100 as above. */
+uint32_t dimple_height(const uint8_t *sheet, size_t sheet_len, double x, double z, double *height, size_t height_len);
+
+#ifdef __cplusplus
+}
+#endif
+
+#endif
