@@ -1,0 +1,50 @@
+-- The path of a ball within one step of a hop, and the time of its fall (ground.rs).
+-- Assumes nothing.
+use lib.Ieee.{Float, le}
+use mathlib.Core.Bool.{cond, _&&_}
+use Rattle.number.specs.Ops.{_⊕_, _⊖_, _⊗_, _⊘_, dec}
+use Rattle.number.specs.Number.{maxOf}
+use Rattle.root.specs.Root.{rootOf}
+use Rattle.vector.specs.Vec.{vadd, vsub, vscale}
+use Rattle.vector.specs.declared.DVec3.{DVec3}
+use Rattle.aero.specs.Aero.{gravity, gOf}
+use Rattle.rk4.specs.declared.State.{State}
+
+-- fn hermite, the position at u = tau / h
+unfoldable pub hermitePos : State → State → Float → Float → DVec3
+hermitePos a b h u =
+    let u2 = u ⊗ u in
+    let u3 = u ⊗ u ⊗ u in
+    let chord = vsub (b .pos) (a .pos) in
+    vadd
+    (vadd (vadd (a .pos) (vscale (a .vel) ((u3 ⊖ dec 2 1 ⊗ u2 ⊕ u) ⊗ h))) (vscale chord (dec 3 1 ⊗ u2 ⊖ dec 2 1 ⊗ u3)))
+    (vscale (b .vel) ((u3 ⊖ u2) ⊗ h))
+
+-- fn hermite, the velocity at u = tau / h
+unfoldable pub hermiteVel : State → State → Float → Float → DVec3
+hermiteVel a b h u =
+    let u2 = u ⊗ u in
+    let chord = vsub (b .pos) (a .pos) in
+    vadd
+    (vadd (vscale (a .vel) (dec 3 1 ⊗ u2 ⊖ dec 4 1 ⊗ u ⊕ dec 1 1)) (vscale chord ((dec 6 1 ⊗ u ⊖ dec 6 1 ⊗ u2) ⊘ h)))
+    (vscale (b .vel) (dec 3 1 ⊗ u2 ⊖ dec 2 1 ⊗ u))
+
+-- fn hermite
+unfoldable pub hermiteOf : State → State → Float → Float → State
+hermiteOf a b h tau = record { pos = hermitePos a b h (tau ⊘ h); vel = hermiteVel a b h (tau ⊘ h) }
+
+-- GroundPhysics::hop, the arc without air: `s.pos + s.vel * tau + 0.5 * GRAVITY * tau * tau`, `s.vel + GRAVITY * tau`
+unfoldable pub parabolaOf : State → Float → State
+parabolaOf s tau =
+    record {
+      pos = vadd (vadd (s .pos) (vscale (s .vel) tau)) (vscale (vscale (vscale gravity (dec 5 10)) tau) tau);
+      vel = vadd (s .vel) (vscale gravity tau);
+    }
+
+-- fn drop_time
+unfoldable pub dropTime : Float → Float → Float
+dropTime height vy =
+    let above = maxOf height (dec 0 1) in
+    let disc = rootOf (vy ⊗ vy ⊕ dec 2 1 ⊗ gOf ⊗ above) in
+    cond (le height (dec 0 1) && le vy (dec 0 1)) (dec 0 1)
+    (cond (le (dec 0 1) vy) ((vy ⊕ disc) ⊘ gOf) (dec 2 1 ⊗ above ⊘ (disc ⊖ vy)))

@@ -1,0 +1,238 @@
+// A ball on the ground, and its path within one step of a hop.
+ghost use mathlib.Core.Path.{_≡_};
+ghost use Rattle.contact.specs.Contact.{tangent, slipOf, lockedOf, saturated, tangentialGravity, relocked, ontoOf, holdsAtRest, sampleHolds, returnedBy, spinInertia, energyOf, hopsDieOut};
+ghost use Rattle.contact.specs.Arc.{hermitePos, hermiteVel, hermiteOf, parabolaOf, dropTime};
+use aero::BallModel;
+use aero::G;
+use aero::GRAVITY;
+use rk4::State;
+use surface::BallState;
+use surface::GroundSample;
+use surface::Surface;
+use vector::DVec3;
+
+// Velocity and spin of a ball that rolls.
+pub struct Locked {
+    pub vel: DVec3,
+    pub spin: DVec3,
+}
+
+// The part of v along the plane with unit normal n.
+fn along(v: DVec3, n: DVec3) -> DVec3
+    ensures { λ r. ⌜ r ≡ tangent v n ⌝ }
+{
+    v.sub(n.scale(v.dot(n)))
+}
+
+// Contact-point slip velocity of a ball on ground with unit normal n.
+pub fn slip(vel: DVec3, spin: DVec3, n: DVec3, radius: f64) -> DVec3
+    ensures { λ r. ⌜ r ≡ slipOf vel spin n radius ⌝ }
+{
+    along(vel, n).add(spin.cross(n.scale(-radius)))
+}
+
+// Removes the contact slip with the friction impulse that brings the ball to rolling.
+pub fn lock_rolling(vel: DVec3, spin: DVec3, n: DVec3, radius: f64, k: f64) -> Locked
+    ensures { λ r. ⌜ r ≡ lockedOf vel spin n radius k ⌝ }
+{
+    let u = slip(vel, spin, n, radius);
+    Locked {
+        vel: vel.sub(u.scale(k / (1.0 + k))),
+        spin: spin.add(n.cross(u).div((1.0 + k) * radius)),
+    }
+}
+
+// The spin `end`, whose part about n does not cross zero from that of `start`.
+pub fn saturate_pivot(start: DVec3, end: DVec3, n: DVec3) -> DVec3
+    ensures { λ r. ⌜ r ≡ saturated start end n ⌝ }
+{
+    let w0 = start.dot(n);
+    let w1 = end.dot(n);
+    if (w0 == 0.0) | (number::signum(w0) != number::signum(w1)) {
+        return end.sub(n.scale(w1));
+    }
+    end
+}
+
+// Gravity along ground with unit normal n.
+pub fn tangential_gravity(n: DVec3) -> DVec3
+    ensures { λ r. ⌜ r ≡ tangentialGravity n ⌝ }
+{
+    along(GRAVITY, n)
+}
+
+// The spin of a ball that rolls on, with its spin about the normal kept.
+fn relock(spin: DVec3, vel: DVec3, n: DVec3, prev_normal: DVec3, radius: f64) -> DVec3
+    ensures { λ r. ⌜ r ≡ relocked spin vel n «prev_normal» radius ⌝ }
+{
+    let w_n = spin.dot(prev_normal.normalize());
+    n.cross(vel).div(radius).add(n.scale(w_n))
+}
+
+// Puts a ball that has stepped across the ground back onto it.
+pub fn onto_surface(
+    state: BallState,
+    at: GroundSample,
+    prev_normal: DVec3,
+    rolling: bool,
+    radius: f64,
+) -> BallState
+    ensures { λ r. ⌜ r ≡ ontoOf state at «prev_normal» rolling radius ⌝ }
+{
+    let normal = at.normal;
+    if normal.same(prev_normal) & (state.pos.y == at.height) {
+        return state;
+    }
+    let n = normal.normalize();
+    let pos = DVec3 {
+        x: state.pos.x,
+        y: at.height,
+        z: state.pos.z,
+    };
+    let v = state.vel;
+    let vel = along(v, n);
+    let spin = state.spin;
+    if rolling {
+        return BallState {
+            time: state.time,
+            pos,
+            vel,
+            spin: relock(spin, vel, n, prev_normal, radius),
+        };
+    }
+    BallState {
+        time: state.time,
+        pos,
+        vel,
+        spin,
+    }
+}
+
+// Whether rolling resistance holds a ball at rest on ground with unit normal n.
+pub fn holds_at_rest(n: DVec3, surface: Surface) -> bool
+    ensures { λ r. ⌜ r ≡ holdsAtRest n surface ⌝ }
+{
+    tangential_gravity(n).length() <= surface.mu_roll * G * n.y
+}
+
+// Whether a ball at rest at this sample stays there.
+pub fn sample_holds(at: GroundSample) -> bool
+    ensures { λ r. ⌜ r ≡ sampleHolds at ⌝ }
+{
+    let normal = at.normal;
+    let surface = at.surface;
+    holds_at_rest(normal.normalize(), surface)
+}
+
+fn returned_by(rebound: BallState, next: BallState) -> f64
+    ensures { λ r. ⌜ r ≡ returnedBy rebound next ⌝ }
+{
+    let after = next.vel;
+    let before = rebound.vel;
+    0.5 * (after.length_squared() - before.length_squared())
+}
+
+fn spin_inertia(ball: BallModel) -> f64
+    ensures { λ r. ⌜ r ≡ spinInertia ball ⌝ }
+{
+    ball.inertia_factor * ball.radius_m() * ball.radius_m()
+}
+
+fn energy(inertia: f64, s: BallState) -> f64
+    ensures { λ r. ⌜ r ≡ energyOf inertia s ⌝ }
+{
+    let v = s.vel;
+    let w = s.spin;
+    0.5 * v.length_squared() + 0.5 * inertia * w.length_squared()
+}
+
+// Whether the hops that follow a rebound off ground with unit normal n die out.
+pub fn hops_die_out(
+    arrival: BallState,
+    rebound: BallState,
+    next: BallState,
+    n: DVec3,
+    ball: BallModel,
+    min_hop_height: f64,
+) -> bool
+    ensures { λ r. ⌜ r ≡ hopsDieOut arrival rebound next n ball «min_hop_height» ⌝ }
+{
+    if tangential_gravity(n).same(DVec3::ZERO) {
+        return true;
+    }
+    let returned = returned_by(rebound, next);
+    if returned <= 0.0 {
+        return true;
+    }
+    let inertia = spin_inertia(ball);
+    let removed = energy(inertia, arrival) - energy(inertia, rebound);
+    removed - returned >= G * min_hop_height
+}
+
+fn hermite_pos(a: State, b: State, h: f64, u: f64) -> DVec3
+    ensures { λ r. ⌜ r ≡ hermitePos a b h u ⌝ }
+{
+    let ap = a.pos;
+    let av = a.vel;
+    let bp = b.pos;
+    let bv = b.vel;
+    let u2 = u * u;
+    let u3 = u * u * u;
+    let chord = bp.sub(ap);
+    ap.add(av.scale((u3 - 2.0 * u2 + u) * h))
+        .add(chord.scale(3.0 * u2 - 2.0 * u3))
+        .add(bv.scale((u3 - u2) * h))
+}
+
+fn hermite_vel(a: State, b: State, h: f64, u: f64) -> DVec3
+    ensures { λ r. ⌜ r ≡ hermiteVel a b h u ⌝ }
+{
+    let ap = a.pos;
+    let av = a.vel;
+    let bp = b.pos;
+    let bv = b.vel;
+    let u2 = u * u;
+    let chord = bp.sub(ap);
+    av.scale(3.0 * u2 - 4.0 * u + 1.0)
+        .add(chord.scale((6.0 * u - 6.0 * u2) / h))
+        .add(bv.scale(3.0 * u2 - 2.0 * u))
+}
+
+// The state a time tau into a step of length h from a to b: the cubic Hermite interpolant.
+pub fn hermite(a: State, b: State, h: f64, tau: f64) -> State
+    ensures { λ r. ⌜ r ≡ hermiteOf a b h tau ⌝ }
+{
+    let u = tau / h;
+    State {
+        pos: hermite_pos(a, b, h, u),
+        vel: hermite_vel(a, b, h, u),
+    }
+}
+
+// The state a time tau after s, under gravity alone.
+pub fn parabola(s: State, tau: f64) -> State
+    ensures { λ r. ⌜ r ≡ parabolaOf s tau ⌝ }
+{
+    let p = s.pos;
+    let v = s.vel;
+    State {
+        pos: p.add(v.scale(tau))
+            .add(GRAVITY.scale(0.5).scale(tau).scale(tau)),
+        vel: v.add(GRAVITY.scale(tau)),
+    }
+}
+
+// The time in which a ball at a height, moving up at vy, falls to the ground under gravity alone.
+pub fn drop_time(height: f64, vy: f64) -> f64
+    ensures { λ r. ⌜ r ≡ dropTime height vy ⌝ }
+{
+    if (height <= 0.0) & (vy <= 0.0) {
+        return 0.0;
+    }
+    let above = number::max(height, 0.0);
+    let disc = root::root(vy * vy + 2.0 * G * above);
+    if vy >= 0.0 {
+        return (vy + disc) / G;
+    }
+    2.0 * above / (disc - vy)
+}

@@ -1,0 +1,178 @@
+// The course: what a look at a spot finds on an accepted sheet, looks that widen a rectangle, and the height at a spot (01, "Course sheet").
+ghost use mathlib.Core.Path.{_≡_};
+ghost use Prim.Native.Nat.{ℕ, _+_, _*_, _≤_};
+ghost use lib.ListN.{length};
+ghost use Rattle.look.specs.Tree.{exec, did, lookTree};
+ghost use Rattle.course.specs.Index.{Ready};
+ghost use Rattle.course.specs.Sheet.{field, surfaces, patches, answerOf, first, covers, restitutionOf, lawOf, surfaceOf, patchSample, plainSample, courseOf, heightOf};
+pub use index::make_index;
+use look::Look;
+use look::LookOut;
+use look::Rect;
+pub use sheet::check_sheet;
+pub use sheet::double_at;
+pub use sheet::float_of;
+pub use sheet::half;
+pub use sheet::word;
+use surface::GroundSample;
+use surface::Restitution;
+use surface::RollLaw;
+use surface::Surface;
+use vector::DVec3;
+
+fn restitution_of(kind: u64, e: f64) -> Restitution
+    ensures { λ r. ⌜ r ≡ restitutionOf kind e ⌝ }
+{
+    if kind == 0 {
+        Restitution::Constant(e)
+    } else {
+        Restitution::Penner2002
+    }
+}
+
+fn law_of(law: u64, v_ref: f64) -> RollLaw
+    ensures { λ r. ⌜ r ≡ lawOf law «v_ref» ⌝ }
+{
+    if law == 0 {
+        RollLaw::Constant
+    } else if law == 1 {
+        RollLaw::Quadratic { v_ref }
+    } else {
+        RollLaw::Exponential { v_ref }
+    }
+}
+
+// Surface i, as held in memory.
+fn surface_at(sheet: &[u8], i: usize) -> Surface
+    requires { ⌜ 80 + 64 * i ≤ length (now sheet) ⌝ }
+    ensures { λ r. ⌜ r ≡ surfaceOf (now (sheet .entry)) i ⌝ }
+{
+    let restitution = restitution_of(sheet::whole(sheet, i, 0), sheet::double(sheet, i, 1));
+    let roll_law = law_of(sheet::whole(sheet, i, 4), sheet::double(sheet, i, 5));
+    Surface {
+        restitution,
+        mu_slide: sheet::double(sheet, i, 2),
+        mu_roll: sheet::double(sheet, i, 3),
+        roll_law,
+        compliance: sheet::double(sheet, i, 6),
+        pivot: sheet::double(sheet, i, 7),
+    }
+}
+
+// What the patch that is record i gives at the spot.
+fn patch_sample(sheet: &[u8], i: usize, x: f64, z: f64) -> GroundSample
+    requires { ⌜ (80 + 64 * i ≤ length (now sheet)) × (80 + 64 * field (now sheet) i 7 ≤ length (now sheet)) ⌝ }
+    ensures { λ r. ⌜ r ≡ patchSample (now (sheet .entry)) x z i ⌝ }
+{
+    let number = sheet::whole(sheet, i, 7);
+    let surface = surface_at(sheet, number as usize);
+    let a = sheet::double(sheet, i, 5);
+    let b = sheet::double(sheet, i, 6);
+    let normal = DVec3 {
+        x: -a,
+        y: 1.0,
+        z: -b,
+    };
+    GroundSample {
+        height: (sheet::double(sheet, i, 4) + a * x) + b * z,
+        normal,
+        surface,
+        number,
+    }
+}
+
+// What is where no patch is.
+fn plain_sample(sheet: &[u8]) -> GroundSample
+    requires { ⌜ 80 ≤ length (now sheet) ⌝ }
+    ensures { λ r. ⌜ r ≡ plainSample (now (sheet .entry)) ⌝ }
+{
+    let surface = surface_at(sheet, 0);
+    let normal = DVec3 {
+        x: 0.0,
+        y: 1.0,
+        z: 0.0,
+    };
+    GroundSample {
+        height: 0.0,
+        normal,
+        surface,
+        number: 0,
+    }
+}
+
+// What the course gives at the spot, where i is the first patch with the spot in it, or past the last.
+fn sample_of(sheet: &[u8], count: usize, n: usize, i: usize, x: f64, z: f64) -> GroundSample
+    requires { ⌜ (answerOf (now sheet) ≡ 0) × ((count ≡ surfaces (now sheet)) × (n ≡ patches (now sheet))) ⌝ }
+    requires { ⌜ i ≡ first (covers (now sheet) x z) n count ⌝ }
+    ensures { λ r. ⌜ r ≡ courseOf (now (sheet .entry)) x z ⌝ }
+{
+    if i < count + n {
+        patch_sample(sheet, i, x, z)
+    } else {
+        plain_sample(sheet)
+    }
+}
+
+// What a look finds, by the index.
+fn sample_at(sheet: &[u8], index: &[u64], x: f64, z: f64) -> GroundSample
+    requires { ⌜ Ready (now sheet) (now index) ⌝ }
+    ensures { λ r. ⌜ r ≡ courseOf (now (sheet .entry)) x z ⌝ }
+{
+    let count = sheet::half(sheet, 0) as usize;
+    let n = sheet::half(sheet, 8) as usize;
+    let i = index::find(sheet, index, count, n, x, z);
+    sample_of(sheet, count, n, i, x, z)
+}
+
+// A look: the spot is tested, and one that passes widens the rectangle.
+pub fn look_at(sheet: &[u8], index: &[u64], rect: Rect, x: f64, z: f64) -> LookOut
+    requires { ⌜ Ready (now sheet) (now index) ⌝ }
+    ensures { λ r. ⌜ did (r .what) (r .rect) ≡ exec (courseOf (now (sheet .entry))) rect (lookTree x z) ⌝ }
+{
+    if look::spot_ok(x, z) {
+        let s = sample_at(sheet, index, x, z);
+        let q = look::widen_to(rect, x, z);
+        LookOut {
+            what: Look::Saw(s),
+            rect: q,
+        }
+    } else {
+        LookOut {
+            what: Look::Off,
+            rect,
+        }
+    }
+}
+
+pub struct HeightOut {
+    pub answer: u32,
+    pub height: f64,
+}
+
+// The height at a spot. The answer is 0, or the number of the first test that fails, with +0.
+pub fn height(sheet: &[u8], x: f64, z: f64) -> HeightOut
+    ensures { λ r. ⌜ r ≡ heightOf (now (sheet .entry)) x z ⌝ }
+{
+    let answer = check_sheet(sheet);
+    if answer != 0 {
+        return HeightOut {
+            answer,
+            height: 0.0,
+        };
+    }
+    if look::spot_ok(x, z) {
+        let count = sheet::half(sheet, 0) as usize;
+        let n = sheet::half(sheet, 8) as usize;
+        let i = index::find_patch(sheet, count, n, x, z);
+        let g = sample_of(sheet, count, n, i, x, z);
+        HeightOut {
+            answer: 0,
+            height: g.height,
+        }
+    } else {
+        HeightOut {
+            answer: 11,
+            height: 0.0,
+        }
+    }
+}

@@ -1,0 +1,55 @@
+use Rattle.sheet.specs.Sheet.{all, surfaceOk, patchOk}
+use Rattle.sheet.specs.Scan.{all-next, all-stop, all-end}
+use native.Mathlib.Nat.{add-sub-cancel-left}
+use borrow.Author.Needs.{needs}
+use native.Mathlib.Omega.{arith}
+use borrow.Author.Tests.{not-true, not-false}
+use mathlib.Core.Path.{_≡_, _∙_, sym, ap, refl}
+use Prim.Native.Nat.{_+_, _*_, _-_, _≤_, _<_}
+use Rattle.sheet.proofs.patches_ok.Statement.{statement}
+use Rattle.sheet.proofs.patches_ok.Tie as tie
+
+abbrev Inv-loop : tie.InvT-loop
+Inv-loop sheet count n end i₀ i = (end ≡ count + n) × ((i ≤ (count + n)) × (all (patchOk sheet) ((count + n) - i) i ≡ all (patchOk sheet) n count))
+
+abbrev μ-loop : tie.MeasureT-loop
+μ-loop sheet count n end i₀ i = (count + n) - i
+
+add-end : tie.Need-add-end Inv-loop μ-loop
+add-end c = omega arith
+
+loop-holds : tie.Need-loop-holds Inv-loop μ-loop
+loop-holds c = (refl, (omega arith, rw add-sub-cancel-left))
+
+patch-ok-requires : tie.Need-patch-ok-requires Inv-loop μ-loop
+patch-ok-requires c κs = search needs
+
+returns : tie.Need-returns Inv-loop μ-loop
+returns c = all-stop (patchOk (c .before .before .before .before .before .args .sheet .now)) (c .before .before .before .loop .i) (c .before .before .before .before .before .args .count + c .before .before .before .before .before .args .n) (omega arith) (sym (c .before .patch-ok .ensures) ∙ not-true _ (c .if1 .taken)) ∙ c .before .before .before .loop .inv .1 .1
+
+add-i : tie.Need-add-i Inv-loop μ-loop
+add-i c = omega arith
+
+loop-less : tie.Need-loop-less Inv-loop μ-loop
+loop-less c = omega arith
+
+loop-again : tie.Need-loop-again Inv-loop μ-loop
+loop-again c = (c .before .before .before .loop .inv .0, (omega arith, all-next (patchOk (c .before .before .before .before .before .args .sheet .now)) (c .before .before .before .loop .i) (c .before .before .before .before .before .args .count + c .before .before .before .before .before .args .n) (omega arith) (sym (c .before .patch-ok .ensures) ∙ not-false _ (c .if1 .left)) ∙ c .before .before .before .loop .inv .1 .1))
+
+returns-2 : tie.Need-returns-2 Inv-loop μ-loop
+returns-2 c = all-end (patchOk (c .before .before .before .args .sheet .now)) (c .before .loop .i) (c .before .before .before .args .count + c .before .before .before .args .n) (omega arith) ∙ c .before .loop .inv .1 .1
+
+pub patches-ok-spec : {M : Type 1} → statement M
+patches-ok-spec =
+    tie.close
+    (tie.spec
+    Inv-loop
+    μ-loop
+    add-end
+    loop-holds
+    patch-ok-requires
+    returns
+    add-i
+    loop-less
+    loop-again
+    returns-2)

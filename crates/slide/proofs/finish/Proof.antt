@@ -1,0 +1,16 @@
+-- `finish` meets its contract.
+use Rattle.slide.specs.Slide.{finishOf}
+use lib.Ieee.{ofBits, round}
+use Rattle.slide.proofs.finish.Statement.{statement}
+use Rattle.slide.proofs.finish.Tie as tie
+
+returns : tie.Need-returns
+unfolding finishOf ofBits round
+returns c = simp (← c .before .before .slip-of .ensures, ← c .before .length .ensures, c .if1 .taken)
+
+returns-2 : tie.Need-returns-2
+unfolding finishOf ofBits round
+returns-2 c = simp (← c .before .before .before .before .before .before .before .slip-of .ensures, ← c .before .before .before .before .before .before .length .ensures, ← c .before .before .before .before .div .ensures, ← c .before .before .before .slip-rate .ensures, ← c .before .before .time-to-roll .ensures, ← c .before .min .ensures, ← c .slide-fixed .ensures, c .before .before .before .before .before .if1 .left)
+
+pub finish-spec : {M : Type 1} → statement M
+finish-spec = tie.close (tie.spec (λ c κs. tt) (λ c κs. tt) returns (λ c κs. tt) (λ c κs. tt) (λ c κs. tt) (λ c κs. tt) (λ c κs. tt) returns-2)

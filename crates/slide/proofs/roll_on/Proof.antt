@@ -1,0 +1,11 @@
+-- `roll_on` meets its contract.
+use Rattle.slide.specs.ContactStep.{rollOn}
+use Rattle.slide.proofs.roll_on.Statement.{statement}
+use Rattle.slide.proofs.roll_on.Tie as tie
+
+returns : tie.Need-returns
+unfolding rollOn
+returns c = simp (← c .before .before .before .before .roll-by .ensures, ← c .rolled-spin .ensures)
+
+pub roll-on-spec : {M : Type 1} → statement M
+roll-on-spec = tie.close (tie.spec (λ c κs. tt) (λ c κs. tt) returns)

@@ -1,0 +1,11 @@
+-- `slide_step` meets its contract.
+use Rattle.slide.specs.ContactStep.{slideStep}
+use Rattle.slide.proofs.slide_step.Statement.{statement}
+use Rattle.slide.proofs.slide_step.Tie as tie
+
+returns : tie.Need-returns
+unfolding slideStep
+returns c = simp (← c .before .before .before .before .before .before .before .slide .ensures, ← c .before .before .before .before .before .before .slid-to .ensures)
+
+pub slide-step-spec : {M : Type 1} → statement M
+slide-step-spec = tie.close (tie.spec (λ c κs. tt) (λ c κs. tt) returns)

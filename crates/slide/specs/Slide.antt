@@ -1,0 +1,123 @@
+-- A ball that slides on one ground sample: ground.rs, Patch and fn slide. Assumes nothing.
+use lib.Ieee.{Float, inf, neg, lt, le}
+use mathlib.Core.Bool.{true, false, cond}
+use Rattle.number.specs.Ops.{_⊕_, _⊖_, _⊗_, _⊘_, dec}
+use Rattle.number.specs.Number.{minOf, maxOf}
+use Rattle.vector.specs.declared.DVec3.{DVec3}
+use Rattle.vector.specs.Vec.{zero3, vadd, vscale, vdivs, vdot, vcross, vlength, sameVec}
+use Rattle.rk4.specs.declared.Motion.{Motion}
+use Rattle.rk4.specs.Rk4.{stepStateOf}
+use Rattle.contact.specs.Contact.{slipOf}
+use Rattle.search.specs.declared.Bracket.{Bracket}
+use Rattle.search.specs.Search.{findRoot, plain}
+use Rattle.slide.specs.declared.Patch.{Patch}
+use Rattle.slide.specs.declared.Slid.{Slid}
+
+-- `SLIP_EPS`
+abbrev pub slipEps : Float
+slipEps = dec 1 1000000000
+
+-- `-self.friction * u_hat + self.g_t`
+unfoldable pub slideAccel : Patch → DVec3 → DVec3
+slideAccel p uHat = vadd (vscale uHat (neg (p .friction))) (p .«g_t»)
+
+-- `self.friction * self.n.cross(u_hat) / (self.k * self.radius) + self.pivot_accel`
+unfoldable pub slideSpinAccel : Patch → DVec3 → DVec3
+slideSpinAccel p uHat = vadd (vdivs (vscale (vcross (p .n) uHat) (p .friction)) (p .k ⊗ p .radius)) (p .«pivot_accel»)
+
+-- Patch::slide_rate
+unfoldable pub slideRate : Patch → Motion → DVec3 → Motion
+slideRate p s uHat = record { pos = s .vel; vel = slideAccel p uHat; spin = slideSpinAccel p uHat }
+
+-- the derivative in Patch::slide_fixed: both accelerations are worked out once
+unfoldable pub fixedRate : DVec3 → DVec3 → Motion → Motion
+fixedRate accel spinAccel s = record { pos = s .vel; vel = accel; spin = spinAccel }
+
+-- Patch::slide_fixed
+unfoldable pub slideFixed : Patch → Motion → Float → Float → DVec3 → Motion
+slideFixed p s t h uHat = stepStateOf (λ s _. fixedRate (slideAccel p uHat) (slideSpinAccel p uHat) s) s t h
+
+-- the contact slip of a motion
+unfoldable pub patchSlip : Patch → Motion → DVec3
+patchSlip p s = slipOf (s .vel) (s .spin) (p .n) (p .radius)
+
+-- the derivative in Patch::slide_turning: the slip direction of the stage, or the fallback where the slip vanishes
+unfoldable pub turningRate : Patch → DVec3 → Motion → Motion
+turningRate p fallback s =
+    let u = patchSlip p s in
+    let len = vlength u in
+    slideRate p s (cond (lt slipEps len) (vdivs u len) fallback)
+
+-- Patch::slide_turning
+unfoldable pub slideTurning : Patch → Motion → Float → Float → DVec3 → Motion
+slideTurning p s t h fallback = stepStateOf (λ s _. turningRate p fallback s) s t h
+
+-- Patch::slip_speed
+unfoldable pub slipSpeed : Patch → Motion → Float
+slipSpeed p s = vlength (patchSlip p s)
+
+-- fn slide, `c = (1.0 + patch.k) / patch.k * patch.friction`, less the slope's pull along uHat
+unfoldable pub slipDecay : Patch → Float
+slipDecay p = (dec 1 1 ⊕ p .k) ⊘ p .k ⊗ p .friction
+
+unfoldable pub slipRate : Patch → DVec3 → Float
+slipRate p uHat = slipDecay p ⊖ vdot (p .«g_t») uHat
+
+-- fn slide, `to_roll`: the time to zero slip from the slip speed len
+unfoldable pub timeToRoll : Float → Float → Float
+timeToRoll len rate = cond (lt (dec 0 1) rate) (len ⊘ rate) (inf false)
+
+-- fn slide, its closure `finish`
+unfoldable pub finishOf : Patch → Motion → Float → Float → Slid
+finishOf p s t left =
+    let u = patchSlip p s in
+    let len = vlength u in
+    let uHat = vdivs u len in
+    let toRoll = timeToRoll len (slipRate p uHat) in
+    let h = minOf left toRoll in
+    cond (le len slipEps)
+    (record { motion = s; time = dec 0 1; rolls = true })
+    (record { motion = slideFixed p s t h uHat; time = h; rolls = le toRoll left })
+
+-- fn slide, its closure `above`: the slip speed at tau less the threshold
+unfoldable pub aboveOf : Patch → Motion → Float → DVec3 → Float → Float → Float
+aboveOf p start t uHat₀ threshold tau = slipSpeed p (slideTurning p start t tau uHat₀) ⊖ threshold
+
+-- fn slide, `guess`
+unfoldable pub guessOf : Float → Float → Float → Float
+guessOf over rate dt = cond (lt (dec 0 1) rate) (over ⊘ rate) dt
+
+-- fn slide, from `let tau` on: slide to tau with the direction turning, then finish along the direction there
+unfoldable pub finishFrom : Patch → Motion → Float → Float → DVec3 → Float → Slid
+finishFrom p start t dt uHat₀ tau =
+    let end = finishOf p (slideTurning p start t tau uHat₀) (t ⊕ tau) (dt ⊖ tau) in
+    record { motion = end .motion; time = tau ⊕ end .time; rolls = end .rolls }
+
+-- fn slide, from `let full` on: a full step, or the step to the threshold and on from there
+unfoldable pub slideOn : Patch → Motion → Float → Float → DVec3 → Float → Float → Slid
+slideOn p start t dt uHat₀ s₀ threshold =
+    let full = slideTurning p start t dt uHat₀ in
+    let sFull = slipSpeed p full in
+    cond (lt threshold sFull)
+    (record { motion = full; time = dt; rolls = false })
+    (finishFrom p start t dt uHat₀
+    (findRoot plain (aboveOf p start t uHat₀ threshold)
+    (record { lo = dec 0 1; «f_lo» = s₀ ⊖ threshold; hi = dt; «f_hi» = sFull ⊖ threshold })
+    (guessOf (s₀ ⊖ threshold) (slipRate p uHat₀) dt)))
+
+-- fn slide, on a slope and above the threshold: `fastest` says whether the slip can reach the threshold within dt
+unfoldable pub slideSteep : Patch → Motion → Float → Float → DVec3 → Float → Float → Slid
+slideSteep p start t dt uHat₀ s₀ threshold =
+    cond (lt ((slipDecay p ⊕ vlength (p .«g_t»)) ⊗ dt) (s₀ ⊖ threshold))
+    (record { motion = slideTurning p start t dt uHat₀; time = dt; rolls = false })
+    (slideOn p start t dt uHat₀ s₀ threshold)
+
+-- fn slide
+unfoldable pub slideOf : Patch → Motion → Float → Float → Float → Slid
+slideOf p start t dt rollThreshold =
+    let threshold = maxOf rollThreshold (dec 1 1000000) in
+    let u₀ = patchSlip p start in
+    let s₀ = vlength u₀ in
+    cond (sameVec (p .«g_t») zero3) (finishOf p start t dt)
+    (cond (le s₀ threshold) (finishOf p start t dt)
+    (slideSteep p start t dt (vdivs u₀ s₀) s₀ threshold))

@@ -1,0 +1,2 @@
+pub mod Penner
+pub mod Surface

@@ -1,0 +1,19 @@
+-- Each component passes.
+use Rattle.tally.specs.Language.{vecOk}
+use Rattle.tally.proofs.vec_ok.Statement.{statement}
+use Rattle.tally.proofs.vec_ok.Tie as tie
+
+returns : tie.Need-returns
+unfolding vecOk
+returns c = rw (← c .before .before .before .before .coord-ok .ensures, c .before .before .before .if1 .taken, ← c .before .before .coord-ok2 .ensures, c .before .if2 .taken) (c .coord-ok3 .ensures)
+
+returns-2 : tie.Need-returns-2
+unfolding vecOk
+returns-2 c = rw (← c .before .before .before .coord-ok .ensures, c .before .before .if1 .taken, ← c .before .coord-ok2 .ensures, c .if2 .left)
+
+returns-3 : tie.Need-returns-3
+unfolding vecOk
+returns-3 c = rw (← c .before .coord-ok .ensures, c .if1 .left)
+
+pub vec-ok-spec : {M : Type 1} → statement M
+vec-ok-spec = tie.close (tie.spec (λ c κs. tt) (λ c κs. tt) (λ c κs. tt) returns returns-2 returns-3)

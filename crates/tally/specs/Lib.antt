@@ -1,0 +1,6 @@
+pub mod Physics
+pub mod Times
+pub mod Language
+pub mod Contracts
+pub mod Lists
+pub mod Words
