@@ -8,7 +8,7 @@ use lib.Dec.{T, ltb, eqb, eqb-refl}
 use lib.IntN.{ℤ, pos}
 use borrow.Author.Tests.{le-ltb, ltb-true, ltb-false}
 use lib.Ieee.{Float, nan, inf, fin, binary64, up, down, round, sum, sub, neg, lt, eq, le, ne, isNan, fits, ofBits, toBits, size, hid}
-use lib.Ieee.Bits.{is-true, ofBits-toBits}
+use lib.Ieee.Bits.{is-true, toBits-lt}
 use lib.Ieee.Fits.{up-pos, down-pos, neg-fits}
 use lib.Ieee.Scale.{round-same}
 use Rattle.number.specs.Number.{finiteOf, signumOf, absOf}
@@ -67,45 +67,35 @@ finite-test (inf true) = refl
 finite-test (inf false) = refl
 finite-test (fin s m e) = less-itself s (m * up e * down e) (down e * down e) (mul-pos (down-pos e) (down-pos e))
 
--- ---- the signs
-pub above-zero : (x : Float) → lt (ofBits binary64 0) x ≡ true → ofBits binary64 0x3ff0_0000_0000_0000 ≡ signumOf x
-unfolding lt ofBits signumOf
-above-zero nan h = absurd (false≢true h)
-above-zero (inf true) h = absurd (false≢true h)
-above-zero (inf false) h = refl
-above-zero (fin true m e) h = absurd (false≢true h)
-above-zero (fin false m e) h = refl
+-- ---- the sign is the highest bit
+top-bit : (q k : ℕ) → 9223372036854775808 + k + q ≡ 9223372036854775808 + (0 + k + q)
+top-bit q k = omega arith
 
-pub below-zero : (x : Float) → lt x (ofBits binary64 0) ≡ true → neg (ofBits binary64 0x3ff0_0000_0000_0000) ≡ signumOf x
-unfolding lt ofBits neg signumOf
-below-zero nan h = absurd (false≢true h)
-below-zero (inf true) h = refl
-below-zero (inf false) h = absurd (false≢true h)
-below-zero (fin true m e) h = refl
-below-zero (fin false m e) h = absurd (none (m * up e * 1) (0 * 1 * down e) (zero-mul (down e)) (ltb-true (m * up e * 1) (0 * 1 * down e) h))
-  where
-    none : (a b : ℕ) → b ≡ 0 → a < b → ⊥
-    none a b p l = omega arith
-
-pub plus-zero : (x : Float) → T (fits binary64 x) → toBits binary64 x ≡ 0 → ofBits binary64 0x3ff0_0000_0000_0000 ≡ signumOf x
-unfolding ofBits signumOf
-plus-zero x f h = ap signumOf (ap (ofBits binary64) (sym h) ∙ ofBits-toBits binary64 x f)
-
-zero-bits : (e : ℤ) → toBits binary64 (fin false 0 e) ≡ 0
+negated-bits : (m : ℕ) (e : ℤ) → toBits binary64 (fin true m e) ≡ 9223372036854775808 + toBits binary64 (fin false m e)
 unfolding toBits
-zero-bits e = ap (λ (n : ℕ). 0 + (size n - 53) * hid binary64 + n / 2 ^ (size n - 53)) (ap (λ (n : ℕ). n * 2 ^ 1074 / down e) (zero-mul (up e)) ∙ zero-div (down e))
+negated-bits m e = let n = m * up e * 2 ^ 1074 / down e in top-bit (n / 2 ^ (size n - 53)) ((size n - 53) * 4503599627370496)
 
-pub minus-zero : (x : Float) → T (not (isNan x)) → lt (ofBits binary64 0) x ≡ false → lt x (ofBits binary64 0) ≡ false → (toBits binary64 x ≡ 0 → ⊥) → neg (ofBits binary64 0x3ff0_0000_0000_0000) ≡ signumOf x
-unfolding lt ofBits neg signumOf isNan
-minus-zero nan n p q h = absurd n
-minus-zero (inf true) n p q h = refl
-minus-zero (inf false) n p q h = absurd (true≢false p)
-minus-zero (fin true m e) n p q h = refl
-minus-zero (fin false zero e) n p q h = absurd (h (zero-bits e))
-minus-zero (fin false (suc m) e) n p q h = absurd (none (0 * 1 * down e) (suc m * up e * 1) (zero-mul (down e)) (mul-pos (mul-pos (zero-lt-suc m) (up-pos e)) (zero-lt-suc 0)) (ltb-false (0 * 1 * down e) (suc m * up e * 1) p))
-  where
-    none : (a b : ℕ) → a ≡ 0 → 0 < b → b ≤ a → ⊥
-    none a b p l h = omega arith
+low-bits : (m : ℕ) (e : ℤ) → T (fits binary64 (fin false m e)) → toBits binary64 (fin false m e) < 9223372036854775808
+unfolding neg
+low-bits m e f =
+    let l : toBits binary64 (fin true m e) < 18446744073709551616 = toBits-lt binary64 (fin true m e) (neg-fits binary64 (fin false m e) f) in
+    omega (arith, negated-bits m e)
+
+pub plus-sign : (x : Float) → T (not (isNan x)) → toBits binary64 x < 9223372036854775808 → ofBits binary64 0x3ff0_0000_0000_0000 ≡ signumOf x
+unfolding ofBits signumOf isNan toBits
+plus-sign nan n h = absurd n
+plus-sign (inf true) n h = absurd (omega arith)
+plus-sign (inf false) n h = refl
+plus-sign (fin true m e) n h = absurd (let l : toBits binary64 (fin true m e) < 9223372036854775808 = h in omega (arith, negated-bits m e))
+plus-sign (fin false m e) n h = refl
+
+pub minus-sign : (x : Float) → T (fits binary64 x) → T (not (isNan x)) → 9223372036854775808 ≤ toBits binary64 x → neg (ofBits binary64 0x3ff0_0000_0000_0000) ≡ signumOf x
+unfolding ofBits neg signumOf isNan toBits
+minus-sign nan f n h = absurd n
+minus-sign (inf true) f n h = refl
+minus-sign (inf false) f n h = absurd (omega arith)
+minus-sign (fin true m e) f n h = refl
+minus-sign (fin false m e) f n h = absurd (let l : 9223372036854775808 ≤ toBits binary64 (fin false m e) = h in omega (arith, low-bits m e f))
 
 pub nan-sign : (x : Float) → ne x x ≡ true → x ≡ signumOf x
 unfolding signumOf

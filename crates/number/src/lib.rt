@@ -31,20 +31,14 @@ pub fn abs(x: f64) -> f64
     if x <= 0.0 { 0.0 - x } else { x }
 }
 
-// 1 with the sign of x, that of a zero included. A NaN stays.
+// 1 with the sign of x, that of a zero included: the highest bit. A NaN stays.
 pub fn signum(x: f64) -> f64
     ensures { λ r. ⌜ r ≡ signumOf x ⌝ }
 {
-    if x > 0.0 {
-        return 1.0;
-    }
-    if x < 0.0 {
-        return -1.0;
-    }
     if x != x {
         return x;
     }
-    if f64::to_bits(x) == 0 { 1.0 } else { -1.0 }
+    if f64::to_bits(x) < 9223372036854775808 { 1.0 } else { -1.0 }
 }
 
 // No NaN and no infinity: their difference with themselves is a NaN.

@@ -1,0 +1,199 @@
+"""Settles golf shots and ranks them, through the shared object that `make` builds. Needs Python's standard library alone.
+
+    course = Course([GREEN])
+    run = settle(course, Landing(vel=(6.0, -4.0, 0.0)))
+    board = Board(pin=(3.0, 0.0)); board.enter(1, run)
+
+A number of document 01 other than 0 is raised as `Refused`, which says in words what is wrong; a run that was stopped (20 to 23) is raised
+as `Stopped`, with what it had got to in its `run`.
+"""
+import ctypes
+import os
+import struct
+from collections import namedtuple
+
+HERE = os.path.dirname(os.path.abspath(__file__))
+LIBRARY = os.path.join(HERE, "..", "target", "libdimple.so")
+
+WORDS = {
+    1: "the course's header or length is wrong",
+    2: "a surface has a field out of range",
+    3: "a patch has a field out of range, its edges exchanged, or names no surface",
+    4: "a setting of the physics or the step limit is out of range",
+    5: "a number of the ball is out of range (a mass from 0.001 to 1 kg, for one)",
+    6: "the air density is not from 0 to 10",
+    7: "the landing's time, position, velocity or spin is out of range",
+    8: "a list is not lent in whole records",
+    9: "the pin is beyond 100,000 m",
+    10: "the spot is beyond 1,000,000 m, or no number",
+    11: "x or z is beyond 1,000,000 m, or no number",
+    12: "the input is shorter than 240 or longer than 34,048 bytes",
+    20: "the list of contacts is full",
+    21: "the list of points is full",
+    22: "the ball left the range of 1,000,000, or a number overflowed",
+    23: "the step limit was reached",
+    24: "the board holds 256 entries",
+    25: "the shot number is on the board already",
+    26: "there is no entry at that place",
+    100: "a buffer has the wrong length",
+    101: "the buffer holds no board",
+}
+
+
+class Refused(ValueError):
+    """What was handed in, or asked for, is refused. `number` is the number, the text says what is wrong."""
+
+    def __init__(self, number):
+        super().__init__(f"{number}: {WORDS.get(number, 'unknown')}")
+        self.number = number
+
+
+class Stopped(Refused):
+    """The run was stopped by 20 to 23. `run` holds what it had got to."""
+
+    def __init__(self, number, run):
+        super().__init__(number)
+        self.run = run
+
+
+# kind "constant" with e, or "penner"; law "constant", "quadratic" or "exponential" with v_ref
+Surface = namedtuple("Surface", "mu_slide mu_roll kind e law v_ref compliance pivot", defaults=("penner", 0.0, "quadratic", 2.5, 1.0, 0.001))
+Patch = namedtuple("Patch", "x_lo x_hi z_lo z_hi h0 a b surface", defaults=(0.0, 0.0, 0.0, 0))
+Physics = namedtuple("Physics", "dt stop_speed roll_threshold min_hop_height max_time max_impacts", defaults=(0.001, 0.01, 0.01, 0.005, 120.0, 200))
+Ball = namedtuple("Ball", "mass_kg diameter_m inertia_factor cd_sub cd_super cd_spin sr_sat cl_sub cl_super sr_scale re_crit re_width")
+Landing = namedtuple("Landing", "time pos vel spin", defaults=(0.0, (0.0, 0.0, 0.0), (0.0, 0.0, 0.0), (0.0, 0.0, 0.0)))
+State = namedtuple("State", "time pos vel spin")
+Contact = namedtuple("Contact", "time pos normal surface vel_in vel_out spin_in spin_out")
+Point = namedtuple("Point", "time pos vel spin phase")
+Rectangle = namedtuple("Rectangle", "x_lo x_hi z_lo z_hi")
+Run = namedtuple("Run", "answer termination steps rest rectangle contacts points")
+
+GREEN = Surface(0.40, 0.055)
+FAIRWAY = Surface(0.40, 0.12)
+TOUR = Ball(0.04593, 0.04267, 0.4, 0.295, 0.186, 0.85, 0.25, 0.203, 0.324, 0.115, 69600.0, 106.0)
+
+KINDS = {"constant": 0, "penner": 1}
+LAWS = {"constant": 0, "quadratic": 1, "exponential": 2}
+TERMINATIONS = ("none", "rest", "time", "impacts")
+PHASES = ("hop", "slide", "roll")
+
+
+class Course:
+    """A course sheet: its surfaces, and the patches, of which the first listed that holds a spot counts there."""
+
+    def __init__(self, surfaces, patches=()):
+        sheet = struct.pack("<4I", len(surfaces), 16, len(patches), 16 + 64 * len(surfaces))
+        for s in surfaces:
+            sheet += struct.pack("<Q3dQ3d", KINDS[s.kind], s.e, s.mu_slide, s.mu_roll, LAWS[s.law], s.v_ref, s.compliance, s.pivot)
+        for p in patches:
+            sheet += struct.pack("<7dQ", *p)
+        self.sheet = sheet
+
+
+def _library():
+    lib = ctypes.CDLL(LIBRARY)
+    doubles, size = ctypes.POINTER(ctypes.c_double), ctypes.c_size_t
+    lib.dimple_settle.argtypes = [ctypes.c_char_p, size, doubles, size, doubles, size, doubles, size]
+    lib.dimple_height.argtypes = [ctypes.c_char_p, size, ctypes.c_double, ctypes.c_double, doubles, size]
+    lib.dimple_board_new.argtypes = [ctypes.c_double, ctypes.c_double, doubles, size]
+    lib.dimple_board_enter.argtypes = [doubles, size, ctypes.c_uint32, ctypes.c_double, ctypes.c_double]
+    lib.dimple_board_place.argtypes = [doubles, size, ctypes.c_uint64, doubles, size]
+    for door in (lib.dimple_settle, lib.dimple_height, lib.dimple_board_new, lib.dimple_board_enter, lib.dimple_board_place):
+        door.restype = ctypes.c_uint32
+    return lib
+
+
+_lib = None
+
+
+def _call(name, *args):
+    global _lib
+    if _lib is None:
+        _lib = _library()
+    return getattr(_lib, name)(*args)
+
+
+def _doubles(n):
+    return (ctypes.c_double * n)()
+
+
+def settle_input(course, landing, physics=Physics(), ball=TOUR, air_density=1.225, step_limit=1_000_000):
+    """The bytes that the program `settle` reads for this shot."""
+    p = physics
+    head = struct.pack("<5d2Q", p.dt, p.stop_speed, p.roll_threshold, p.min_hop_height, p.max_time, p.max_impacts, step_limit)
+    body = struct.pack("<23d", *ball, air_density, landing.time, *landing.pos, *landing.vel, *landing.spin)
+    return head + body + course.sheet
+
+
+def settle(course, landing, physics=Physics(), ball=TOUR, air_density=1.225, step_limit=1_000_000, contacts=256, points=16384):
+    """The run of a landing to its end, as a `Run`."""
+    data = settle_input(course, landing, physics, ball, air_density, step_limit)
+    lc, lp, result = _doubles(20 * contacts), _doubles(11 * points), _doubles(19)
+    answer = _call("dimple_settle", data, len(data), lc, len(lc), lp, len(lp), result, len(result))
+    if 0 < answer < 20:
+        raise Refused(answer)
+    r = list(result)
+    nc, np = int(r[2]), int(r[3])
+    run = Run(answer, TERMINATIONS[int(r[1])], int(r[4]), _state(r[5:15]), Rectangle(*r[15:19]),
+              [_contact(lc[20 * i:20 * i + 20]) for i in range(nc)], [_point(lp[11 * i:11 * i + 11]) for i in range(np)])
+    if answer:
+        raise Stopped(answer, run)
+    return run
+
+
+def _state(d):
+    return State(d[0], tuple(d[1:4]), tuple(d[4:7]), tuple(d[7:10]))
+
+
+def _contact(d):
+    return Contact(d[0], tuple(d[1:4]), tuple(d[4:7]), int(d[7]), *(tuple(d[i:i + 3]) for i in (8, 11, 14, 17)))
+
+
+def _point(d):
+    return Point(*_state(d), PHASES[int(d[10])])
+
+
+def height(course, x, z):
+    """The course's height at a spot."""
+    out = _doubles(1)
+    answer = _call("dimple_height", course.sheet, len(course.sheet), x, z, out, 1)
+    if answer:
+        raise Refused(answer)
+    return out[0]
+
+
+def on_published_ground(run, rectangle):
+    """Whether the run stayed within a published rectangle. Then its result gives away nothing of the ground outside: two courses that agree
+    within the rectangle that a run reports give the same result (`demand-3` in crates/ground/specs/Demand.antt), and the reported one
+    holds every spot that was looked at."""
+    r, q = run.rectangle, Rectangle(*rectangle)
+    return q.x_lo <= r.x_lo and r.x_hi <= q.x_hi and q.z_lo <= r.z_lo and r.z_hi <= q.z_hi
+
+
+class Board:
+    """Up to 256 shots, least distance from the pin first, equal distances by the lower shot number."""
+
+    def __init__(self, pin):
+        self._buffer = _doubles(771)
+        self._check(_call("dimple_board_new", pin[0], pin[1], self._buffer, 771))
+
+    @staticmethod
+    def _check(answer):
+        if answer:
+            raise Refused(answer)
+
+    def enter(self, shot, run):
+        x, _, z = run.rest.pos
+        self._check(_call("dimple_board_enter", self._buffer, 771, shot, x, z))
+
+    def place(self, at):
+        """The shot number at a place, from 0."""
+        out = _doubles(1)
+        self._check(_call("dimple_board_place", self._buffer, 771, at, out, 1))
+        return int(out[0])
+
+    def __len__(self):
+        return int(self._buffer[2])
+
+    def listing(self):
+        return [self.place(i) for i in range(len(self))]
