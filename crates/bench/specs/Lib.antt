@@ -1,1 +1,5 @@
 pub mod Numbers
+pub mod Definitions
+pub mod Given
+pub mod Shots
+pub mod Looks

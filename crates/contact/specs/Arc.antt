@@ -10,28 +10,29 @@ use Rattle.vector.specs.declared.DVec3.{DVec3}
 use Rattle.aero.specs.Aero.{gravity, gOf}
 use Rattle.rk4.specs.declared.State.{State}
 
--- fn hermite, the position at u = tau / h
-unfoldable pub hermitePos : State → State → Float → Float → DVec3
-hermitePos a b h u =
+-- fn hermite, `pos`: position and velocity at the start, chord, velocity at the end, h, u = tau / h
+unfoldable pub hermitePos : DVec3 → DVec3 → DVec3 → DVec3 → Float → Float → DVec3
+hermitePos pos vel chord endVel h u =
     let u2 = u ⊗ u in
     let u3 = u ⊗ u ⊗ u in
-    let chord = vsub (b .pos) (a .pos) in
     vadd
-    (vadd (vadd (a .pos) (vscale (a .vel) ((u3 ⊖ dec 2 1 ⊗ u2 ⊕ u) ⊗ h))) (vscale chord (dec 3 1 ⊗ u2 ⊖ dec 2 1 ⊗ u3)))
-    (vscale (b .vel) ((u3 ⊖ u2) ⊗ h))
+    (vadd (vadd pos (vscale vel ((u3 ⊖ dec 2 1 ⊗ u2 ⊕ u) ⊗ h))) (vscale chord (dec 3 1 ⊗ u2 ⊖ dec 2 1 ⊗ u3)))
+    (vscale endVel ((u3 ⊖ u2) ⊗ h))
 
--- fn hermite, the velocity at u = tau / h
-unfoldable pub hermiteVel : State → State → Float → Float → DVec3
-hermiteVel a b h u =
+-- fn hermite, `vel`: velocity at the start, chord, velocity at the end, h, u = tau / h
+unfoldable pub hermiteVel : DVec3 → DVec3 → DVec3 → Float → Float → DVec3
+hermiteVel vel chord endVel h u =
     let u2 = u ⊗ u in
-    let chord = vsub (b .pos) (a .pos) in
     vadd
-    (vadd (vscale (a .vel) (dec 3 1 ⊗ u2 ⊖ dec 4 1 ⊗ u ⊕ dec 1 1)) (vscale chord ((dec 6 1 ⊗ u ⊖ dec 6 1 ⊗ u2) ⊘ h)))
-    (vscale (b .vel) (dec 3 1 ⊗ u2 ⊖ dec 2 1 ⊗ u))
+    (vadd (vscale vel (dec 3 1 ⊗ u2 ⊖ dec 4 1 ⊗ u ⊕ dec 1 1)) (vscale chord ((dec 6 1 ⊗ u ⊖ dec 6 1 ⊗ u2) ⊘ h)))
+    (vscale endVel (dec 3 1 ⊗ u2 ⊖ dec 2 1 ⊗ u))
 
--- fn hermite
+-- fn hermite: the states a and b a time h apart, at tau
 unfoldable pub hermiteOf : State → State → Float → Float → State
-hermiteOf a b h tau = record { pos = hermitePos a b h (tau ⊘ h); vel = hermiteVel a b h (tau ⊘ h) }
+hermiteOf a b h tau =
+    let u = tau ⊘ h in
+    let chord = vsub (b .pos) (a .pos) in
+    record { pos = hermitePos (a .pos) (a .vel) chord (b .vel) h u; vel = hermiteVel (a .vel) chord (b .vel) h u }
 
 -- GroundPhysics::hop, the arc without air: `s.pos + s.vel * tau + 0.5 * GRAVITY * tau * tau`, `s.vel + GRAVITY * tau`
 unfoldable pub parabolaOf : State → Float → State

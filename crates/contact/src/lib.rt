@@ -169,43 +169,40 @@ pub fn hops_die_out(
     removed - returned >= G * min_hop_height
 }
 
-fn hermite_pos(a: State, b: State, h: f64, u: f64) -> DVec3
-    ensures { λ r. ⌜ r ≡ hermitePos a b h u ⌝ }
+// The position of the interpolant at u = tau / h.
+fn hermite_pos(pos: DVec3, vel: DVec3, chord: DVec3, end_vel: DVec3, h: f64, u: f64) -> DVec3
+    ensures { λ r. ⌜ r ≡ hermitePos pos vel chord «end_vel» h u ⌝ }
 {
-    let ap = a.pos;
-    let av = a.vel;
-    let bp = b.pos;
-    let bv = b.vel;
     let u2 = u * u;
     let u3 = u * u * u;
-    let chord = bp.sub(ap);
-    ap.add(av.scale((u3 - 2.0 * u2 + u) * h))
+    pos.add(vel.scale((u3 - 2.0 * u2 + u) * h))
         .add(chord.scale(3.0 * u2 - 2.0 * u3))
-        .add(bv.scale((u3 - u2) * h))
+        .add(end_vel.scale((u3 - u2) * h))
 }
 
-fn hermite_vel(a: State, b: State, h: f64, u: f64) -> DVec3
-    ensures { λ r. ⌜ r ≡ hermiteVel a b h u ⌝ }
+// The velocity of the interpolant at u = tau / h.
+fn hermite_vel(vel: DVec3, chord: DVec3, end_vel: DVec3, h: f64, u: f64) -> DVec3
+    ensures { λ r. ⌜ r ≡ hermiteVel vel chord «end_vel» h u ⌝ }
 {
-    let ap = a.pos;
-    let av = a.vel;
-    let bp = b.pos;
-    let bv = b.vel;
     let u2 = u * u;
-    let chord = bp.sub(ap);
-    av.scale(3.0 * u2 - 4.0 * u + 1.0)
+    vel.scale(3.0 * u2 - 4.0 * u + 1.0)
         .add(chord.scale((6.0 * u - 6.0 * u2) / h))
-        .add(bv.scale(3.0 * u2 - 2.0 * u))
+        .add(end_vel.scale(3.0 * u2 - 2.0 * u))
 }
 
 // The state a time tau into a step of length h from a to b: the cubic Hermite interpolant.
 pub fn hermite(a: State, b: State, h: f64, tau: f64) -> State
     ensures { λ r. ⌜ r ≡ hermiteOf a b h tau ⌝ }
 {
+    let pos = a.pos;
+    let vel = a.vel;
+    let end = b.pos;
+    let end_vel = b.vel;
     let u = tau / h;
+    let chord = end.sub(pos);
     State {
-        pos: hermite_pos(a, b, h, u),
-        vel: hermite_vel(a, b, h, u),
+        pos: hermite_pos(pos, vel, chord, end_vel, h, u),
+        vel: hermite_vel(vel, chord, end_vel, h, u),
     }
 }
 

@@ -10,9 +10,13 @@ use Rattle.course.specs.declared.HeightOut.{HeightOut}
 pub use Rattle.sheet.specs.Sheet.{surfaces, patches, field, real, Accepted}
 unfoldable pub use Rattle.sheet.specs.Sheet.{little, headerOk, restitutionOk, lawOk, surfaceOk, edgesOk, patchOk, all, answerOf, first, covers, restitutionOf, lawOf, surfaceOf, patchSample, plainSample, courseOf}
 
--- 0 and the height, or the number of the first test that fails, in the order 1, 2, 3, 11, and +0
+-- what a refusal gives: the number of the test, and +0
+abbrev pub refusedHeight : ℕ → HeightOut
+refusedHeight n = record { answer = n; height = dec 0 1 }
+
+abbrev pub heightAt : Float → HeightOut
+heightAt h = record { answer = 0; height = h }
+
+-- `height`: the tests 1, 2, 3, then 11
 unfoldable pub heightOf : List ℕ → Float → Float → HeightOut
-heightOf s x z =
-    cond (eqb (answerOf s) 0)
-    (cond (spotOk x z) (record { answer = 0; height = courseOf s x z .height }) (record { answer = 11; height = dec 0 1 }))
-    (record { answer = answerOf s; height = dec 0 1 })
+heightOf s x z = cond (eqb (answerOf s) 0) (cond (spotOk x z) (heightAt (courseOf s x z .height)) (refusedHeight 11)) (refusedHeight (answerOf s))

@@ -1,14 +1,14 @@
 -- The bits of the sum that exp makes, and the place in the table that they give. Assumes nothing.
-use mathlib.Core.Path.{_≡_, refl, sym, ap, _∙_, subst}
+use mathlib.Core.Path.{_≡_, sym, ap, _∙_, subst}
 use Prim.Native.Nat.{ℕ, _+_, _-_, _*_, _/_, _%_, _^_, _≤_, _<_}
 use native.Mathlib.Omega.{arith}
-use mathlib.Core.Bool.{Bool, true, false, not}
+use mathlib.Core.Bool.{false, not}
 use lib.Dec.{T}
 use lib.Ieee.{Float, nan, inf, fin, binary64, minus, sub, ofBits, toBits, toSigned, fits, isNan, odd}
 use lib.Ieee.Bits.{ofBits-fits, toBits-ofBits}
 use lib.Ieee.Exact.{HasValue, odd-sign}
 use lib.Ieee.Back.{whole-unique}
-use Rattle.exponential.specs.Exp.{big}
+use Rattle.exponential.specs.Exp.{shiftBy}
 use Rattle.exponential.specs.Rounding.{by-one}
 use Rattle.exponential.specs.Shift.{Sum, integer}
 use Rattle.exponential.proofs.Table.{normal}
@@ -39,7 +39,7 @@ bits-of-sum u f s =
 pub record Index (u : Float) : Type 0 where
   pub least : 4843621399236967438 ≤ toBits binary64 u
   pub most : toBits binary64 u - 4843621399236967438 < 2021
-  pub entry : minus (toBits binary64 u - 4843621399236967438) 1010 ≡ toSigned 63 (sub binary64 u big)
+  pub entry : minus (toBits binary64 u - 4843621399236967438) 1010 ≡ toSigned 63 (sub binary64 u shiftBy)
 
 pub index : (u : Float) → T (fits binary64 u) → Sum u → Index u
 index u f s =

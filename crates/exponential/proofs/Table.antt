@@ -1,15 +1,14 @@
 -- The table of powers of two: entry i has the bits (i + 13) * 2 ^ 52, which are those of 2 ^ (i - 1010). Assumes nothing.
-use mathlib.Core.Path.{_≡_, refl, sym, ap, _∙_, subst}
+use mathlib.Core.Path.{_≡_, refl, sym, ap, _∙_}
 use mathlib.Core.List.{List, [], _∷_}
-use Prim.Native.Nat.{ℕ, zero, suc, _+_, _-_, _*_, _/_, _%_, _^_, _≤_, _<_}
+use Prim.Native.Nat.{ℕ, zero, suc, _+_, _-_, _*_, _/_, _%_, _≤_, _<_}
 use native.Mathlib.Nat.{not-suc-le-zero, le-of-suc-le-suc, suc-add, add-suc, add-zero, zero-add, not-le-of-lt, mod-eq-of-lt}
 use native.Mathlib.Omega.{arith}
-use mathlib.Core.Bool.{Bool, true, false, cond, not}
-use lib.Dec.{T, leb, eqb, leb→le, eqb→eq, not-T, nleb→lt, le→leb}
-use lib.IntN.{ℤ, pos, negsuc}
+use mathlib.Core.Bool.{Bool, false, cond}
+use lib.Dec.{T, leb, eqb, leb→le, eqb→eq, not-T}
 use lib.ListN.{getD}
 use lib.Ieee.{Float, nan, inf, fin, binary64, odd, ofFields, ofBits, minus}
-use lib.Ieee.Bits.{is-false, is-true, cond-no}
+use lib.Ieee.Bits.{is-false, cond-no}
 use Rattle.exponential.specs.Exp.{power}
 use Rattle.exponential.specs.Shift.{minus-shift}
 

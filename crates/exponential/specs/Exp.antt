@@ -19,28 +19,28 @@ limit = dec 700 1
 abbrev pub log2e : Float
 log2e = dec 14426950408889634 10000000000000000
 
-abbrev pub big : Float
-big = dec 6755399441055744 1
+abbrev pub shiftBy : Float
+shiftBy = dec 6755399441055744 1
 
 -- 0.693147180369123816490
-abbrev pub high : Float
-high = dec 693147180369123816490 1000000000000000000000
+abbrev pub ln2High : Float
+ln2High = dec 693147180369123816490 1000000000000000000000
 
 -- 1.90821492927058770002e-10
-abbrev pub low : Float
-low = dec 190821492927058770002 1000000000000000000000000000000
+abbrev pub ln2Low : Float
+ln2Low = dec 190821492927058770002 1000000000000000000000000000000
 
 -- x×1.4426950408889634 + 6755399441055744
 abbrev pub shifted : Float → Float
-shifted x = x ⊗ log2e ⊕ big
+shifted x = x ⊗ log2e ⊕ shiftBy
 
 -- n, a whole number from −1010 to 1010 for x from −700 to 700 (`specs/Whole.antt`)
-abbrev pub turns : Float → Float
-turns x = shifted x ⊖ big
+abbrev pub exponent : Float → Float
+exponent x = shifted x ⊖ shiftBy
 
 -- r = (x − n×0.693147180369123816490) − n×1.90821492927058770002e-10
-abbrev pub rest : Float → Float → Float
-rest x n = x ⊖ n ⊗ high ⊖ n ⊗ low
+abbrev pub reduced : Float → Float → Float
+reduced x n = x ⊖ n ⊗ ln2High ⊖ n ⊗ ln2Low
 
 -- from p, for k down to 1: p = 1 + (r/k)×p
 unfoldable pub horner : ℕ → Float → Float → Float
@@ -53,7 +53,7 @@ twoTo n = fin false 1 (toSigned 63 n)
 
 -- p×2^n
 abbrev pub within : Float → Float
-within x = horner 14 (rest x (turns x)) one ⊗ twoTo (turns x)
+within x = horner 14 (reduced x (exponent x)) one ⊗ twoTo (exponent x)
 
 -- NaN stays (only a NaN differs from itself); above 700 infinity; below −700 zero
 unfoldable pub expOf : Float → Float

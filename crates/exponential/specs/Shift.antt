@@ -1,7 +1,7 @@
 -- The steps to `specs/Whole.antt`: for x from −700 to 700 the sum x×1.4426950408889634 + 6755399441055744 is a double between 2 ^ 52 and 2 ^ 53, where doubles are whole numbers, within 1010 of 6755399441055744; and the difference is exact. Assumes nothing.
 use mathlib.Core.Path.{_≡_, refl, sym, ap, _∙_, subst}
 use mathlib.Core.Logic.{_⊎_, inl, inr, ⊎-elim}
-use Prim.Native.Nat.{ℕ, zero, suc, _+_, _-_, _*_, _≤_, _<_}
+use Prim.Native.Nat.{ℕ, suc, _+_, _-_, _*_, _≤_, _<_}
 use native.Mathlib.Nat.{mul-lt-mul-of-pos-right, mul-one, mul-pos}
 use native.Mathlib.Omega.{arith}
 use mathlib.Core.Bool.{Bool, true, false, not, cond, true≢false, _&&_}
@@ -14,7 +14,7 @@ use lib.Ieee.Nearest.{closest}
 use lib.Ieee.Exact.{HasValue}
 use lib.Ieee.Scale.{round-same}
 use lib.Ieee.Back.{positive-back, negative-back}
-use Rattle.exponential.specs.Exp.{limit, log2e, big, shifted}
+use Rattle.exponential.specs.Exp.{limit, log2e, shiftBy, shifted}
 use Rattle.exponential.specs.Rounding.{closest-le, closest-ge, AtMost, round-at-most, round-whole-at}
 
 -- ---- the constants as m * 2 ^ e
@@ -26,9 +26,9 @@ log2e-is : log2e ≡ fin false 3248660424278399 (negsuc 50)
 unfolding round
 log2e-is = refl
 
-big-is : big ≡ fin false 3 (pos 51)
+shiftBy-is : shiftBy ≡ fin false 3 (pos 51)
 unfolding round
-big-is = refl
+shiftBy-is = refl
 
 -- ---- x is at most 700 in size
 of-test : (a b : ℕ) → ltb a b ≡ false → b ≤ a
@@ -87,14 +87,16 @@ added (fin true m e) s h =
     subst (λ (z : Bool). Sum (cond z (round binary64 false (b - a) (down e * 1)) (round binary64 (true && ltb b a) (a - b) (down e * 1)))) (sym (is-true (ltb a b) (lt→ltb a b less)))
     (rounded (b - a) (down e * 1) (mul-pos d (omega arith)) (omega arith) (omega arith))
 
-pub sum-of : (x : Float) → ne x x ≡ false → lt limit x ≡ false → lt x (neg limit) ≡ false → Sum (shifted x)
+pub bounded : (x : Float) → ne x x ≡ false → lt limit x ≡ false → lt x (neg limit) ≡ false → ((AtMost x false 700) ⊎ (AtMost x true 700))
 unfolding neg
+bounded x a b c = sized x a (subst (λ (l : Float). lt l x ≡ false) limit-is b) (subst (λ (l : Float). lt x (neg l) ≡ false) limit-is c)
+
+pub sum-of : (x : Float) → ne x x ≡ false → lt limit x ≡ false → lt x (neg limit) ≡ false → Sum (shifted x)
 sum-of x a b c =
     let t = mul binary64 x (fin false 3248660424278399 (negsuc 50)) in
-    let h = sized x a (subst (λ (l : Float). lt l x ≡ false) limit-is b) (subst (λ (l : Float). lt x (neg l) ≡ false) limit-is c) in
-    subst (λ (l : Float). Sum (add binary64 (mul binary64 x l) big)) (sym log2e-is)
-    (subst (λ (l : Float). Sum (add binary64 t l)) (sym big-is)
-    (⊎-elim (λ g. added t false (scaled x false g)) (λ g. added t true (scaled x true g)) h))
+    subst (λ (l : Float). Sum (add binary64 (mul binary64 x l) shiftBy)) (sym log2e-is)
+    (subst (λ (l : Float). Sum (add binary64 t l)) (sym shiftBy-is)
+    (⊎-elim (λ g. added t false (scaled x false g)) (λ g. added t true (scaled x true g)) (bounded x a b c)))
 
 -- ---- and with 6755399441055744 taken off
 taken-below : (q d r : ℕ) → q + r ≡ 6755399441055744 → q * d + r * d ≡ 6755399441055744 * d
@@ -181,7 +183,6 @@ minus-shift a b c = go (leb (b + c) (a + c)) (leb b a) (leb→le (b + c) (a + c)
     go false true h k l m = absurd (let x = k tt in let y = l tt in omega arith)
     go false false h k l m = ap negsuc (omega arith)
 
-
 offset : (u : Float) → (s : Sum u) → minus (s .q) 6755399441055744 ≡ minus (s .q - 6755399441054734) 1010
 offset u s =
     let l = s .least in
@@ -190,8 +191,8 @@ offset u s =
     ap (λ (x : ℕ). minus x 6755399441055744) j ∙ minus-shift i 1010 6755399441054734
 
 -- the difference is the double of an integer from −1010 to 1010, and reads back as that integer
-pub difference : (u : Float) → (s : Sum u) → sub binary64 u big ≡ ofInt binary64 (minus (s .q - 6755399441054734) 1010)
-difference u s = ap (sub binary64 u) big-is ∙ turned u s ∙ ap (ofInt binary64) (offset u s)
+pub difference : (u : Float) → (s : Sum u) → sub binary64 u shiftBy ≡ ofInt binary64 (minus (s .q - 6755399441054734) 1010)
+difference u s = ap (sub binary64 u) shiftBy-is ∙ turned u s ∙ ap (ofInt binary64) (offset u s)
 
-pub integer : (u : Float) → (s : Sum u) → toSigned 63 (sub binary64 u big) ≡ minus (s .q - 6755399441054734) 1010
-integer u s = ap (toSigned 63) (ap (sub binary64 u) big-is ∙ turned u s) ∙ signed-back (s .q) (s .least) (s .most) ∙ offset u s
+pub integer : (u : Float) → (s : Sum u) → toSigned 63 (sub binary64 u shiftBy) ≡ minus (s .q - 6755399441054734) 1010
+integer u s = ap (toSigned 63) (ap (sub binary64 u) shiftBy-is ∙ turned u s) ∙ signed-back (s .q) (s .least) (s .most) ∙ offset u s

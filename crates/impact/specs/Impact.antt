@@ -54,7 +54,8 @@ struck state surface radius k n nEff vNEff =
       time = state .time;
       pos = state .pos;
       vel = vadd (vadd (state .vel) (vscale nEff jN)) jTVec;
-      spin = pivoted (vadd (state .spin) (vdivs (vcross r jTVec) inertia)) n (surface .pivot ⊗ jN ⊘ inertia) }
+      spin = pivoted (vadd (state .spin) (vdivs (vcross r jTVec) inertia)) n (surface .pivot ⊗ jN ⊘ inertia);
+    }
 
 -- fn impact: the given state if v·n ≥ -GRAZING × |v|, and if v·n_eff ≥ 0; GRAZING is 1e-12
 unfoldable pub impactOf : BallState → GroundSample → BallModel → BallState

@@ -1,12 +1,11 @@
 // The impact of a ball on the ground: Penner's tilted contact plane, friction that grips or slides, and pivot friction.
 ghost use mathlib.Core.Path.{_≡_};
 ghost use Rattle.impact.specs.Impact.{unitOrZero, effectiveNormal, frictionImpulse, pivoted, struck, impactOf};
-
-use vector::DVec3;
-use surface::Surface;
-use surface::GroundSample;
-use surface::BallState;
 use aero::BallModel;
+use surface::BallState;
+use surface::GroundSample;
+use surface::Surface;
+use vector::DVec3;
 
 // Normal speed, relative to the ball's speed, up to which an impact counts as grazing.
 const GRAZING: f64 = 1e-12;
@@ -29,7 +28,8 @@ pub fn effective_normal(surface: Surface, n: DVec3, v: DVec3, v_dot_n: f64) -> D
     let v_t = v_t_vec.length();
     let beta = surface.contact_angle(v_t, -v_dot_n);
     let t_hat = unit_or_zero(v_t_vec, v_t);
-    n.scale(trigonometry::cosine(beta)).sub(t_hat.scale(trigonometry::sine(beta)))
+    n.scale(trigonometry::cosine(beta))
+        .sub(t_hat.scale(trigonometry::sine(beta)))
 }
 
 // The friction impulse that opposes the slip: what makes it grip, at most the Coulomb limit.
@@ -54,7 +54,15 @@ pub fn pivot_friction(spin: DVec3, n: DVec3, limit: f64) -> DVec3
 }
 
 // The state after the impulses along n_eff and against the slip, and the pivot friction about n.
-pub fn strike(state: BallState, surface: Surface, radius: f64, k: f64, n: DVec3, n_eff: DVec3, v_n_eff: f64) -> BallState
+pub fn strike(
+    state: BallState,
+    surface: Surface,
+    radius: f64,
+    k: f64,
+    n: DVec3,
+    n_eff: DVec3,
+    v_n_eff: f64,
+) -> BallState
     ensures { λ r. ⌜ r ≡ struck state surface radius k n «n_eff» «v_n_eff» ⌝ }
 {
     let pos = state.pos;
@@ -70,7 +78,12 @@ pub fn strike(state: BallState, surface: Surface, radius: f64, k: f64, n: DVec3,
     let vel = v.add(n_eff.scale(j_n)).add(j_t_vec);
     let turned = w.add(r.cross(j_t_vec).div(inertia));
     let spin = pivot_friction(turned, n, surface.pivot * j_n / inertia);
-    BallState { time: state.time, pos, vel, spin }
+    BallState {
+        time: state.time,
+        pos,
+        vel,
+        spin,
+    }
 }
 
 // One ball-turf impact: the state after it, which is the given one where the ball does not move into the ground.
@@ -90,5 +103,13 @@ pub fn impact(state: BallState, at: GroundSample, ball: BallModel) -> BallState
     if v_n_eff >= 0.0 {
         return state;
     }
-    strike(state, surface, ball.radius_m(), ball.inertia_factor, n, n_eff, v_n_eff)
+    strike(
+        state,
+        surface,
+        ball.radius_m(),
+        ball.inertia_factor,
+        n,
+        n_eff,
+        v_n_eff,
+    )
 }

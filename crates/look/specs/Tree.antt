@@ -1,7 +1,7 @@
 -- The look tree: a definition that may look at a course, as its looks, its steps and its answer. Definitions, and the laws that a caller's proof goes by.
-use mathlib.Core.Path.{_≡_, refl, ap, _∙_, sym}
+use mathlib.Core.Path.{_≡_, refl, _∙_}
 use mathlib.Core.List.{List, [], _∷_, _++_}
-use mathlib.Core.Bool.{Bool, true, false, cond}
+use mathlib.Core.Bool.{Bool, true, false}
 use lib.Ieee.{Float}
 use Rattle.look.specs.declared.Rect.{Rect}
 use Rattle.surface.specs.declared.GroundSample.{GroundSample}

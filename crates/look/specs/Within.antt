@@ -1,5 +1,5 @@
 -- The rectangle holds every spot looked at, and lies within every other that does; so two courses that agree within it give the same run.
-use mathlib.Core.Path.{_≡_, refl, ap, subst, sym}
+use mathlib.Core.Path.{_≡_, refl}
 use mathlib.Core.List.{List, [], _∷_}
 use mathlib.Core.Bool.{Bool, true, false, not, _&&_, cond}
 use lib.Dec.{T}
@@ -8,7 +8,7 @@ use Rattle.look.specs.declared.Rect.{Rect}
 use Rattle.look.specs.Rect.{widen, widenIf, lesser, greater, spotOk, coordOk, noRect}
 use Rattle.number.specs.Number.{withinOf, finiteOf}
 use Rattle.number.specs.Order.{le-through, le-self, lt-le, nlt-le}
-use Rattle.look.specs.Tree.{Tree, done, look, step, Oracle, Spot, run, looks, exec, did, seen, note, Did}
+use Rattle.look.specs.Tree.{Tree, done, look, step, Oracle, Spot, run, looks, exec, seen, note}
 use Rattle.look.specs.Agree.{All, AgreeOn, rectFrom, same-run, exec-is}
 
 -- a spot is within a rectangle: by value, ends included

@@ -1,1 +1,3 @@
 pub mod Rk4
+pub mod Classical
+pub mod Fractions

@@ -1,8 +1,8 @@
 -- The test that corrects an estimate r of the root of m * 2 ^ 52, for r = a * 2 ^ 27 + b: the difference m * 2 ^ 52 - r * r is g - s, and by it r, r + 1 or r - 1 is the nearest. Assumes nothing.
-use mathlib.Core.Path.{_≡_, refl, sym, ap, _∙_, subst}
-use mathlib.Core.Logic.{_⊎_, inl, inr, ⊎-elim}
-use Prim.Native.Nat.{ℕ, zero, suc, _+_, _-_, _*_, _/_, _%_, _^_, _≤_, _<_}
-use native.Mathlib.Nat.{mul-le-mul-right, mul-le-mul-left, lt-of-le-of-lt, le-trans, lt-of-lt-of-le}
+use mathlib.Core.Path.{_≡_, ap, _∙_}
+use mathlib.Core.Logic.{_⊎_, inl, inr}
+use Prim.Native.Nat.{ℕ, _+_, _-_, _*_, _/_, _%_, _≤_, _<_}
+use native.Mathlib.Nat.{mul-le-mul-right}
 use native.Mathlib.Omega.{arith}
 use Rattle.root.specs.Inner.{Near}
 

@@ -1,13 +1,13 @@
 -- `rootOf` from a whole number that is nearest to a root. Assumes nothing.
 use mathlib.Core.Path.{_≡_, refl, sym, ap, _∙_, subst}
-use mathlib.Core.Logic.{_⊎_, inl, inr, ⊎-elim}
-use Prim.Native.Nat.{ℕ, zero, suc, _+_, _-_, _*_, _/_, _%_, _^_, _≤_, _<_}
-use native.Mathlib.Nat.{mul-assoc, mul-le-mul, mul-le-mul-left, mul-le-mul-right, lt-of-not-le, le-trans, le-antisymm, le-of-suc-le-suc, lt-of-lt-of-le, lt-of-le-of-lt, le-of-eq, mul-div-cancel, not-le-of-lt, mul-lt-mul-of-pos-right, mul-pos, pow-succ'}
+use mathlib.Core.Logic.{_⊎_, inl, inr}
+use Prim.Native.Nat.{ℕ, suc, _+_, _-_, _*_, _/_, _%_, _^_, _≤_, _<_}
+use native.Mathlib.Nat.{mul-assoc, mul-le-mul, mul-le-mul-left, mul-le-mul-right, lt-of-not-le, le-antisymm, le-of-suc-le-suc, lt-of-lt-of-le, mul-div-cancel, not-le-of-lt, mul-lt-mul-of-pos-right, mul-pos}
 use native.Mathlib.Omega.{arith}
 use mathlib.Core.Bool.{Bool, true, false, cond, not}
 use lib.Dec.{T, leb, leb→le, nleb→lt}
 use lib.Pow.{pow-add, pow-pos, pow-mono}
-use lib.Ieee.{Float, size, odd, ofBits, binary64}
+use lib.Ieee.{size, odd, ofBits, binary64}
 use lib.Ieee.Digits.{size-lt, size-le}
 use Rattle.root.specs.Root.{floorRoot, nearRoot, rootUnits, rootOf, dropped}
 use Rattle.root.specs.Halfway.{floor-root}

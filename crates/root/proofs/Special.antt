@@ -1,11 +1,10 @@
 -- The root where the double is 0, infinite or below 0. Assumes nothing.
 use mathlib.Core.Path.{_≡_, refl, sym, ap, _∙_, subst}
-use Prim.Native.Nat.{ℕ, zero, suc, _+_, _-_, _*_, _/_, _%_, _^_, _≤_, _<_}
-use native.Mathlib.Nat.{mul-one, mul-pos, zero-mul, lt-irrefl, le-of-suc-le-suc, lt-of-not-le}
+use Prim.Native.Nat.{ℕ, zero, suc, _+_, _*_, _/_, _%_, _^_, _≤_, _<_}
+use native.Mathlib.Nat.{mul-pos, zero-mul, le-of-suc-le-suc, lt-of-not-le}
 use native.Mathlib.Omega.{arith}
 use mathlib.Core.Bool.{Bool, true, false, cond, not, true≢false}
-use lib.Dec.{T, leb, ltb, eqb, le→leb, lt→ltb, T-not}
-use lib.IntN.{pos, negsuc}
+use lib.Dec.{T, leb, eqb, le→leb, lt→ltb, T-not}
 use lib.Pow.{pow-pos}
 use lib.Ieee.{Float, nan, inf, fin, binary64, up, down, odd, ofFields, ofBits, toBits, nanBits, isNan, fits, div, neg}
 use lib.Ieee.Bits.{is-true, nanBits-above, nanBits-is, ofBits-toBits, toBits-lt}

@@ -1,13 +1,13 @@
 -- Where the root is finite, and where it is a NaN. Assumes nothing.
 use mathlib.Core.Path.{_≡_, refl, sym, subst}
 use mathlib.Core.Logic.{_⊎_, inl, inr}
-use Prim.Native.Nat.{ℕ, zero, suc, _+_, _*_, _/_, _^_}
+use Prim.Native.Nat.{ℕ, zero, suc, _*_, _/_, _^_}
 use native.Mathlib.Nat.{mul-pos, zero-lt-suc}
 use native.Mathlib.Omega.{arith}
 use mathlib.Core.Bool.{true, false}
 use lib.Dec.{T, not-T}
 use lib.IntN.{ℤ, pos}
-use lib.Ieee.{Float, nan, inf, fin, up, down, odd, lt, le, isNan}
+use lib.Ieee.{Float, nan, inf, fin, odd, lt, le, isNan}
 use lib.Ieee.Fits.{up-pos}
 use Rattle.number.specs.Number.{finiteOf}
 use Rattle.number.specs.Order.{le→, →le, nle-lt}

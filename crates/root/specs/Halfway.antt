@@ -9,7 +9,7 @@ use mathlib.Core.Bool.{Bool, true, false, cond, not, _&&_}
 use lib.Dec.{T, leb, ltb, eqb, leb→le, ltb→lt, nleb→lt}
 use lib.IntN.{ℤ, pos, negsuc}
 use lib.Pow.{pow-add, pow-pos, pow-mono, pow-lt}
-use lib.Ieee.{Float, nan, inf, fin, binary64, up, down, size, odd, fits}
+use lib.Ieee.{Float, fin, binary64, up, down, size, odd, fits}
 use lib.Ieee.Digits.{size-lt, size-le, size-reaches}
 use lib.Ieee.Fits.{and-l, and-r, down-pos, odd-fits}
 use lib.Ieee.Exact.{HasValue, odd-sign}
@@ -378,4 +378,3 @@ against-infinity u a h k =
     four =
         lt-of-le-of-lt (le-of-eq (mul-left-comm 4 u (2 ^ 1074)))
         (lt-of-lt-of-le (mul-lt-mul-of-pos-right h (mul-pos (pow-pos 2) (pow-pos 1074))) (mul-le-mul-left (2 ^ 2098) (le-trans (le-of-eq (sym (pow-add 2 2 1074))) (pow-mono {i = 1076} {j = 2098} (omega arith)))))
-

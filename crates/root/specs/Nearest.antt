@@ -7,12 +7,12 @@ use native.Mathlib.Omega.{arith}
 use mathlib.Core.Bool.{Bool, true, false, not, cond, true≢false}
 use lib.Dec.{T, lt→ltb}
 use lib.IntN.{ℤ}
-use lib.Ieee.{Float, nan, inf, fin, binary64, up, down, size, fits, isNan, toBits, ofBits}
+use lib.Ieee.{Float, nan, inf, fin, binary64, down, size, fits, isNan, toBits, ofBits}
 use lib.Ieee.Fits.{down-pos, nan-fits}
 use lib.Ieee.Bits.{ofBits-toBits}
 use lib.Ieee.Exact.{HasValue}
 use lib.Ieee.Positive.{positive}
-use Rattle.root.specs.Root.{inUnits, rootOf, rootUnits}
+use Rattle.root.specs.Root.{inUnits, rootOf}
 use Rattle.root.specs.Halfway.{Rooted, Apart, form-of, form-above, rooted, nearest-units, units-fit, root-double, root-above, against-above, against-below, against-infinity}
 
 -- A double as a number of units of 2 ^ -1074, its positive part less its negative part. An infinity counts as ±2 ^ 1024, the number after the greatest double.

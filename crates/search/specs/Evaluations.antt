@@ -1,5 +1,5 @@
 -- What holds of the search whatever is evaluated: at most 200 evaluations, and the answer within the bracket. Assumes nothing.
-use Prim.Native.Nat.{ℕ, zero, suc, _+_, _≤_}
+use Prim.Native.Nat.{ℕ, zero, suc, _≤_}
 use native.Mathlib.Omega.{arith}
 use mathlib.Core.Path.{_≡_, refl}
 use mathlib.Core.Bool.{Bool, true, false, cond}
@@ -80,6 +80,7 @@ pub record Ordered (lo hi : Float) (b : Bracket) : Type 0 where
   pub lo-fits : T (fits binary64 (b .lo))
   pub hi-fits : T (fits binary64 (b .hi))
 
+-- a search whose bracket is in order, and whose next place is a double, a NaN included
 abbrev pub Ready : Float → Float → Search → Type 0
 Ready lo hi s = Ordered lo hi (s .bracket) × T (fits binary64 (s .x))
 

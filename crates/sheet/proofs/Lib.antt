@@ -1,3 +1,2 @@
-pub mod Consts
 pub mod Nans
 pub mod Little

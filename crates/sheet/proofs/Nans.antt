@@ -1,6 +1,6 @@
 -- The one NaN.
 use mathlib.Core.Path.{_≡_, refl, sym}
-use mathlib.Core.Bool.{Bool, true, false, true≢false}
+use mathlib.Core.Bool.{true, false, true≢false}
 use lib.Ieee.{Float, nan, inf, fin, isNan}
 
 pub is-nan : (x : Float) → isNan x ≡ true → x ≡ nan

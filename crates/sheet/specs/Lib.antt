@@ -1,3 +1,4 @@
 pub mod Sheet
+pub mod Consts
 pub mod Scan
 pub mod Accepted

@@ -8,7 +8,6 @@ use Rattle.vector.specs.Vec.{zero3, vadd, vscale, vdivs, vdot, vcross, vlength,
 use Rattle.rk4.specs.declared.Motion.{Motion}
 use Rattle.rk4.specs.Rk4.{stepStateOf}
 use Rattle.contact.specs.Contact.{slipOf}
-use Rattle.search.specs.declared.Bracket.{Bracket}
 use Rattle.search.specs.Search.{findRoot, plain}
 use Rattle.slide.specs.declared.Patch.{Patch}
 use Rattle.slide.specs.declared.Slid.{Slid}
@@ -56,10 +55,11 @@ slideTurning p s t h fallback = stepStateOf (λ s _. turningRate p fallback s) s
 unfoldable pub slipSpeed : Patch → Motion → Float
 slipSpeed p s = vlength (patchSlip p s)
 
--- fn slide, `c = (1.0 + patch.k) / patch.k * patch.friction`, less the slope's pull along uHat
+-- fn slide, `c`: `(1.0 + patch.k) / patch.k * patch.friction`
 unfoldable pub slipDecay : Patch → Float
 slipDecay p = (dec 1 1 ⊕ p .k) ⊘ p .k ⊗ p .friction
 
+-- fn slide, `rate` and `rate0`: c less the slope's pull along the slip
 unfoldable pub slipRate : Patch → DVec3 → Float
 slipRate p uHat = slipDecay p ⊖ vdot (p .«g_t») uHat
 
@@ -94,8 +94,8 @@ finishFrom p start t dt uHat₀ tau =
     record { motion = end .motion; time = tau ⊕ end .time; rolls = end .rolls }
 
 -- fn slide, from `let full` on: a full step, or the step to the threshold and on from there
-unfoldable pub slideOn : Patch → Motion → Float → Float → DVec3 → Float → Float → Slid
-slideOn p start t dt uHat₀ s₀ threshold =
+unfoldable pub slideToThreshold : Patch → Motion → Float → Float → DVec3 → Float → Float → Slid
+slideToThreshold p start t dt uHat₀ s₀ threshold =
     let full = slideTurning p start t dt uHat₀ in
     let sFull = slipSpeed p full in
     cond (lt threshold sFull)
@@ -105,12 +105,12 @@ slideOn p start t dt uHat₀ s₀ threshold =
     (record { lo = dec 0 1; «f_lo» = s₀ ⊖ threshold; hi = dt; «f_hi» = sFull ⊖ threshold })
     (guessOf (s₀ ⊖ threshold) (slipRate p uHat₀) dt)))
 
--- fn slide, on a slope and above the threshold: `fastest` says whether the slip can reach the threshold within dt
-unfoldable pub slideSteep : Patch → Motion → Float → Float → DVec3 → Float → Float → Slid
-slideSteep p start t dt uHat₀ s₀ threshold =
+-- fn slide, on a slope and above the threshold: at the rate `fastest` the slip may not reach the threshold within dt
+unfoldable pub slideOnSlope : Patch → Motion → Float → Float → DVec3 → Float → Float → Slid
+slideOnSlope p start t dt uHat₀ s₀ threshold =
     cond (lt ((slipDecay p ⊕ vlength (p .«g_t»)) ⊗ dt) (s₀ ⊖ threshold))
     (record { motion = slideTurning p start t dt uHat₀; time = dt; rolls = false })
-    (slideOn p start t dt uHat₀ s₀ threshold)
+    (slideToThreshold p start t dt uHat₀ s₀ threshold)
 
 -- fn slide
 unfoldable pub slideOf : Patch → Motion → Float → Float → Float → Slid
@@ -120,4 +120,4 @@ slideOf p start t dt rollThreshold =
     let s₀ = vlength u₀ in
     cond (sameVec (p .«g_t») zero3) (finishOf p start t dt)
     (cond (le s₀ threshold) (finishOf p start t dt)
-    (slideSteep p start t dt (vdivs u₀ s₀) s₀ threshold))
+    (slideOnSlope p start t dt (vdivs u₀ s₀) s₀ threshold))

@@ -1,8 +1,7 @@
 // A ball on the ground: the slide, and one ground step.
 ghost use mathlib.Core.Path.{_≡_};
-ghost use Rattle.rk4.specs.Rk4.{stepStateOf};
 ghost use Rattle.search.specs.Search.{findRoot, plain};
-ghost use Rattle.slide.specs.Slide.{slideAccel, slideSpinAccel, slideRate, fixedRate, slideFixed, patchSlip, turningRate, slideTurning, slipSpeed, slipDecay, slipRate, timeToRoll, finishOf, aboveOf, guessOf, finishFrom, slideOn, slideSteep, slideOf};
+ghost use Rattle.slide.specs.Slide.{slideAccel, slideSpinAccel, slideRate, fixedRate, slideFixed, patchSlip, turningRate, slideTurning, slipSpeed, slipDecay, slipRate, timeToRoll, finishOf, aboveOf, guessOf, finishFrom, slideToThreshold, slideOnSlope, slideOf};
 ghost use Rattle.slide.specs.ContactStep.{pivotAccel, patchOf, slidTo, slideStep, rollPatchOf, decelOf, headingOf, stopsOf, stopTime, restPos, restSpin, restOf, resistanceOf, rollRate, rollBy, rolledSpin, rollOn, rollStep, contactStepOf};
 use aero::BallModel;
 use contact::Locked;
@@ -257,6 +256,7 @@ fn time_at_threshold(
     s.bracket.hi
 }
 
+// Slide to `tau` with the slip direction turning, then finish along the direction there.
 fn finish_from(patch: Patch, start: Motion, t: f64, dt: f64, u_hat0: DVec3, tau: f64) -> Slid
     ensures { λ r. ⌜ r ≡ finishFrom patch start t dt «u_hat0» tau ⌝ }
 {
@@ -270,7 +270,8 @@ fn finish_from(patch: Patch, start: Motion, t: f64, dt: f64, u_hat0: DVec3, tau:
     }
 }
 
-fn slide_on(
+// A full step, or where the slip falls to the threshold within it, the slide to there and on.
+fn slide_to_threshold(
     patch: Patch,
     start: Motion,
     t: f64,
@@ -279,7 +280,7 @@ fn slide_on(
     s0: f64,
     threshold: f64,
 ) -> Slid
-    ensures { λ r. ⌜ r ≡ slideOn patch start t dt «u_hat0» s0 threshold ⌝ }
+    ensures { λ r. ⌜ r ≡ slideToThreshold patch start t dt «u_hat0» s0 threshold ⌝ }
 {
     let full = patch.slide_turning(start, t, dt, u_hat0);
     let s_full = patch.slip_speed(full);
@@ -301,7 +302,8 @@ fn slide_on(
     finish_from(patch, start, t, dt, u_hat0, tau)
 }
 
-fn slide_steep(
+// A slide on a slope that starts above the threshold.
+fn slide_on_slope(
     patch: Patch,
     start: Motion,
     t: f64,
@@ -310,7 +312,7 @@ fn slide_steep(
     s0: f64,
     threshold: f64,
 ) -> Slid
-    ensures { λ r. ⌜ r ≡ slideSteep patch start t dt «u_hat0» s0 threshold ⌝ }
+    ensures { λ r. ⌜ r ≡ slideOnSlope patch start t dt «u_hat0» s0 threshold ⌝ }
 {
     let g_t = patch.g_t;
     let fastest = patch.slip_decay() + g_t.length();
@@ -321,7 +323,7 @@ fn slide_steep(
             rolls: false,
         };
     }
-    slide_on(patch, start, t, dt, u_hat0, s0, threshold)
+    slide_to_threshold(patch, start, t, dt, u_hat0, s0, threshold)
 }
 
 // Slide from `start`, with slip above SLIP_EPS, for at most `dt`.
@@ -338,7 +340,7 @@ pub fn slide(patch: Patch, start: Motion, t: f64, dt: f64, roll_threshold: f64) 
     if s0 <= threshold {
         return finish(patch, start, t, dt);
     }
-    slide_steep(patch, start, t, dt, u0.div(s0), s0, threshold)
+    slide_on_slope(patch, start, t, dt, u0.div(s0), s0, threshold)
 }
 
 fn pivot_accel_of(w: f64, pivot: f64, g_n: f64, inertia: f64, n: DVec3) -> DVec3

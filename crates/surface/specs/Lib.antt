@@ -1,2 +1,5 @@
 pub mod Penner
 pub mod Surface
+pub mod Rows
+pub mod RoundingError
+pub mod PennerError

@@ -13,12 +13,12 @@ use Rattle.look.specs.Tree.{bind, Oracle, exec, did, Did, ends, lookTree}
 use Rattle.look.specs.declared.Rect.{Rect}
 use Rattle.look.specs.declared.Look.{Look}
 use Rattle.look.specs.declared.Look.the-variants.{Off, Saw}
-use Rattle.records.specs.Records.{Records, Put, full, put, pushed, asPut, recs}
+use Rattle.records.specs.Records.{Put, full, put, pushed, asPut, recs}
 use Rattle.records.specs.declared.Pushed.{Pushed}
 use Rattle.records.specs.declared.Pushed.the-variants.{Full, Done}
 use Rattle.tally.specs.declared.Conditions.{Conditions}
 use Rattle.tally.specs.Contracts.{pushedIf, overBy}
-use Rattle.tally.specs.Language.{M, Ran, ran, Log, Outcome, goes, stops, onward, _>>=_, pure, stopWith, when, stateOk, pointOf, contactOf, point, seenAt, stepped, tested, withPoints, withContacts, pushContact, countStep, look, test, pushPoint, mark, truncate, stepsLeft, Pass, again, over, loop}
+use Rattle.tally.specs.Language.{M, Ran, ran, Log, Outcome, goes, stops, onward, _>>=_, when, stateOk, pointOf, contactOf, seenAt, stepped, tested, withPoints, withContacts, pushContact, countStep, look, test, pushPoint, mark, truncate, stepsLeft, Pass, again, loop}
 
 module _ {A B : Type 0} (o : Oracle) (q : Rect) (m : M A) (k : A → M B) (l : Log) {x : Outcome A} {l' : Log} {q' : Rect} where
   -- the callee went on

@@ -9,4 +9,4 @@ unfolding hermiteOf
 returns c = cc
 
 pub hermite-spec : {M : Type 1} → statement M
-hermite-spec = tie.close (tie.spec (λ c κs. tt) (λ c κs. tt) returns)
+hermite-spec = tie.close (tie.spec (λ c κs. tt) (λ c κs. tt) (λ c κs. tt) returns)

@@ -7,7 +7,7 @@ use Rattle.contact.proofs.hermite_vel.Tie as tie
 
 returns : tie.Need-returns
 unfolding hermiteVel ofBits round
-returns c = simp (← c .before .before .before .before .before .sub .ensures, ← c .before .before .before .before .scale .ensures, ← c .before .before .before .scale2 .ensures, ← c .before .before .add .ensures, ← c .before .scale3 .ensures, ← c .add2 .ensures)
+returns c = simp (← c .before .before .before .before .scale .ensures, ← c .before .before .before .scale2 .ensures, ← c .before .before .add .ensures, ← c .before .scale3 .ensures, ← c .add2 .ensures)
 
 pub hermite-vel-spec : {M : Type 1} → statement M
-hermite-vel-spec = tie.close (tie.spec (λ c κs. tt) (λ c κs. tt) (λ c κs. tt) (λ c κs. tt) (λ c κs. tt) (λ c κs. tt) returns)
+hermite-vel-spec = tie.close (tie.spec (λ c κs. tt) (λ c κs. tt) (λ c κs. tt) (λ c κs. tt) (λ c κs. tt) returns)

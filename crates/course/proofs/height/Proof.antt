@@ -3,7 +3,7 @@ use native.Mathlib.Omega.{arith}
 use borrow.Author.Tests.{eq-eqb, ne-eqb}
 use mathlib.Core.Path.{_∙_, sym}
 use Rattle.sheet.specs.Accepted.{accepted}
-use Rattle.course.proofs.Consts.{c0}
+use Rattle.sheet.specs.Consts.{c0}
 use Rattle.course.specs.Sheet.{heightOf}
 use borrow.Author.Needs.{needs}
 use Rattle.course.proofs.height.Statement.{statement}

@@ -1,5 +1,5 @@
 -- patch_sample: height, normal and surface of a patch at a spot.
-use Rattle.course.proofs.Consts.{c1}
+use Rattle.sheet.specs.Consts.{c1}
 use Rattle.course.specs.Sheet.{patchSample}
 use borrow.Author.Needs.{needs}
 use Rattle.course.proofs.patch_sample.Statement.{statement}

@@ -1,5 +1,5 @@
 -- plain_sample: what is where no patch is.
-use Rattle.course.proofs.Consts.{c0, c1}
+use Rattle.sheet.specs.Consts.{c0, c1}
 use Rattle.course.specs.Sheet.{plainSample}
 use borrow.Author.Needs.{needs}
 use Rattle.course.proofs.plain_sample.Statement.{statement}

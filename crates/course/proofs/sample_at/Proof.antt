@@ -1,6 +1,5 @@
 -- sample_at: what a look finds.
 use native.Mathlib.Omega.{arith}
-use mathlib.Core.Path.{_∙_}
 use Rattle.sheet.specs.Accepted.{accepted}
 use borrow.Author.Needs.{needs}
 use Rattle.course.proofs.sample_at.Statement.{statement}

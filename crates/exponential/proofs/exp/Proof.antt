@@ -1,14 +1,12 @@
 -- `exponential::exp` meets its contract (`proofs/Place.antt`, `proofs/Cases.antt`). Assumes nothing.
-use mathlib.Core.Path.{_≡_, refl, sym, ap, _∙_}
-use mathlib.Core.Bool.{true, false}
-use lib.IntN.{ℤ}
-use lib.Ieee.{Float, fin, binary64, inf, ofBits, round, div, mul}
+use mathlib.Core.Path.{_≡_, refl, _∙_}
+use mathlib.Core.Bool.{false}
+use lib.Ieee.{fin, binary64, inf, ofBits, round, div, mul}
 use lib.Ieee.Fits.{add-fits}
-use Rattle.exponential.specs.Exp.{log2e, big, shifted}
+use Rattle.exponential.specs.Exp.{log2e, shiftBy, shifted}
 use Rattle.exponential.specs.Shift.{Sum, sum-of}
 use Rattle.exponential.proofs.Place.{Index, index, no-nan}
 use Rattle.exponential.proofs.Cases.{at-nan, above, below, between}
-use borrow.Author.Needs.{needs}
 use Rattle.exponential.proofs.exp.Statement.{statement}
 use Rattle.exponential.proofs.exp.Tie as tie
 use Rattle.exponential.proofs.exp.Reads as reads
@@ -29,7 +27,7 @@ unfolding ofBits round
 total c = sum-of _ (c .before .before .if1 .left) (c .before .if2 .left) (c .if3 .left)
 
 at : (c : lts.Else3 (series-reads.Asked, series-reads.Learnt, power-at-reads.Asked, power-at-reads.Learnt) reads.Pre reads.Post) → Index (shifted (c .before .before .before .args .x))
-at c = index _ (add-fits binary64 (mul binary64 (c .before .before .before .args .x) log2e) big) (total c)
+at c = index _ (add-fits binary64 (mul binary64 (c .before .before .before .args .x) log2e) shiftBy) (total c)
 
 returns : tie.Need-returns
 returns c = at-nan _ (c .if1 .taken)

@@ -3,8 +3,6 @@ use Rattle.exponential.proofs.Table.{rule}
 use borrow.Author.Needs.{needs}
 use Rattle.exponential.proofs.power_at.Statement.{statement}
 use Rattle.exponential.proofs.power_at.Tie as tie
-use Rattle.exponential.proofs.power_at.Reads as reads
-use Rattle.exponential.proofs.power_at.Lts as lts
 
 mul-result : tie.Need-mul-result
 mul-result c = search needs

@@ -1,16 +1,14 @@
 -- `exponential::series` meets its contract. Assumes nothing.
-use mathlib.Core.Path.{_≡_, refl, sym, ap, _∙_}
+use mathlib.Core.Path.{_≡_, refl, ap, _∙_}
 use Prim.Native.Nat.{ℕ, zero, suc, _≤_, _<_, _-_}
 use native.Mathlib.Omega.{arith}
 use native.Mathlib.Nat.{not-suc-le-zero}
-use lib.Dec.{T, leb, le→leb}
+use lib.Dec.{T, le→leb}
 use lib.IntN.{pos}
 use lib.Ieee.{Float, binary64, add, mul, div, ofInt, inFloat, ofBits, round}
 use Rattle.exponential.specs.Exp.{horner, one}
 use Rattle.exponential.proofs.series.Statement.{statement}
 use Rattle.exponential.proofs.series.Tie as tie
-use Rattle.exponential.proofs.series.Reads as reads
-use Rattle.exponential.proofs.series.Lts as lts
 
 turn : (k : ℕ) (r p : Float) → 0 < k → horner (k - 1) r (add binary64 one (mul binary64 (div binary64 r (ofInt binary64 (pos k))) p)) ≡ horner k r p
 unfolding horner

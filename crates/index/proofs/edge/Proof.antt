@@ -1,11 +1,9 @@
+-- edge: a field that is no NaN, from its bits.
 use lib.Ieee.{ofBits, binary64}
-use mathlib.Core.Path.{_≡_, _∙_, sym, ap, refl, subst}
+use mathlib.Core.Path.{ap}
 use borrow.Author.Needs.{needs}
 use Rattle.index.proofs.edge.Statement.{statement}
 use Rattle.index.proofs.edge.Tie as tie
-
-whole-requires : tie.Need-whole-requires
-whole-requires c κs = search needs
 
 float-from-bits-result : tie.Need-float-from-bits-result
 float-from-bits-result c = rw (c .whole .ensures) (c .before .before .pre .1 .1)
@@ -14,4 +12,4 @@ returns : tie.Need-returns
 returns c = ap (ofBits binary64) (c .whole .ensures)
 
 pub edge-spec : {M : Type 1} → statement M
-edge-spec = tie.close (tie.spec whole-requires float-from-bits-result returns)
+edge-spec = tie.close (tie.spec (λ c κs. search needs) float-from-bits-result returns)

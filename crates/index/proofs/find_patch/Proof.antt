@@ -1,10 +1,10 @@
+-- find_patch: each patch is tried.
 use Rattle.sheet.specs.Accepted.{accepted, edges-real, patch-passed}
 use Rattle.sheet.specs.Scan.{first-next, first-stop, first-end}
 use native.Mathlib.Nat.{add-sub-cancel-left}
-use borrow.Author.Needs.{needs}
 use Prim.Native.Nat.{_+_, _-_, _≤_}
 use native.Mathlib.Omega.{arith}
-use mathlib.Core.Path.{_≡_, _∙_, sym, ap, refl, subst}
+use mathlib.Core.Path.{_≡_, _∙_, sym, refl}
 use Rattle.sheet.specs.Sheet.{first, covers}
 use Rattle.index.proofs.find_patch.Statement.{statement}
 use Rattle.index.proofs.find_patch.Tie as tie
@@ -40,16 +40,4 @@ returns-2 : tie.Need-returns-2 Inv-loop μ-loop
 returns-2 c = first-end (covers (c .before .before .before .args .sheet .now) (c .before .before .before .args .x) (c .before .before .before .args .z)) (c .before .loop .i) (c .before .before .before .args .count + c .before .before .before .args .n) (omega arith) ∙ c .before .loop .inv .1 .1
 
 pub find-patch-spec : {M : Type 1} → statement M
-find-patch-spec =
-    tie.close
-    (tie.spec
-    Inv-loop
-    μ-loop
-    add-end
-    loop-holds
-    spot-in-requires
-    returns
-    add-i
-    loop-less
-    loop-again
-    returns-2)
+find-patch-spec = tie.close (tie.spec Inv-loop μ-loop add-end loop-holds spot-in-requires returns add-i loop-less loop-again returns-2)

@@ -1,14 +1,13 @@
 -- `push` writes the record after n others, or finds the list full. The invariant: the first i doubles of the record are written.
-use mathlib.Core.Path.{_≡_, refl, _∙_, sym, ap}
+use mathlib.Core.Path.{_≡_, refl, _∙_, ap}
 use Prim.Native.Nat.{_-_, _*_, _≤_, _<_, _+_, zero-le}
 use native.Mathlib.Omega.{arith}
-use native.Mathlib.Nat.{le-div-iff-mul-le, suc-mul, mul-le-mul-left}
+use native.Mathlib.Nat.{mul-le-mul-left}
 use native.Mathlib.Numerals.{add-one}
 use lib.ListN.{length, length-set}
-use lib.Seq.{paste, paste-zero, paste-suc, length-paste}
+use lib.Seq.{paste, paste-zero, paste-suc}
 use lib.Ieee.{nan}
 use borrow.Author.Needs.{needs}
-use Rattle.records.specs.Records.{Pushes}
 use Rattle.records.proofs.Laws.{pushes-done, pushes-full, room}
 use Rattle.records.proofs.push.Statement.{statement}
 use Rattle.records.proofs.push.Tie as tie

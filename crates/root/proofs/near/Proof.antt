@@ -3,11 +3,6 @@ use Rattle.root.proofs.NotNan.{not-nan}
 use borrow.Author.Needs.{needs}
 use Rattle.root.proofs.near.Statement.{statement}
 use Rattle.root.proofs.near.Tie as tie
-use Rattle.root.proofs.near.Reads as reads
-use Rattle.root.proofs.near.Lts as lts
-use Rattle.root.proofs.digits.Reads as digits-reads
-use Rattle.root.proofs.estimate.Reads as estimate-reads
-use Rattle.root.proofs.corrected.Reads as corrected-reads
 
 estimate-requires : tie.Need-estimate-requires
 estimate-requires c κs = search needs

@@ -1,5 +1,5 @@
 -- edges_ok: both edges within ±100,000, and lo ≤ hi.
-use Rattle.sheet.proofs.Consts.{c100000}
+use Rattle.sheet.specs.Consts.{c100000}
 use Rattle.sheet.specs.Sheet.{edgesOk}
 use Rattle.sheet.proofs.edges_ok.Statement.{statement}
 use Rattle.sheet.proofs.edges_ok.Tie as tie

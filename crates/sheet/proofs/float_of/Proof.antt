@@ -1,8 +1,6 @@
--- `sheet::float_of` meets its contract: a pattern that is above that of infinity, its sign aside, is a NaN's. Assumes nothing.
-use mathlib.Core.Path.{_∙_, sym, subst}
-use mathlib.Core.Bool.{not}
-use lib.Dec.{T, ltb, ltb→lt}
-use lib.Ieee.{binary64, div, ofBits, nan, isNan}
+-- float_of: a pattern that is above that of infinity, its sign aside, is a NaN's.
+use mathlib.Core.Path.{_∙_, sym}
+use lib.Ieee.{binary64, div, ofBits}
 use lib.Ieee.Bits.{nanBits-above, nanBits-is}
 use borrow.Author.Tests.{lt-ltb, le-ltb}
 use borrow.Author.Needs.{needs}
@@ -17,8 +15,5 @@ returns : tie.Need-returns
 unfolding div ofBits
 returns c = sym (is-nan (ofBits binary64 (c .before .args .bits)) (sym (nanBits-is binary64 (c .before .args .bits)) ∙ nanBits-above binary64 (c .before .args .bits) ∙ lt-ltb _ _ (c .if1 .taken)))
 
-returns-2 : tie.Need-returns-2
-returns-2 c = search needs
-
 pub float-of-spec : {M : Type 1} → statement M
-float-of-spec = tie.close (tie.spec float-from-bits-result returns returns-2)
+float-of-spec = tie.close (tie.spec float-from-bits-result returns (λ c. search needs))

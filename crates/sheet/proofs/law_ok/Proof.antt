@@ -1,13 +1,10 @@
-use Rattle.sheet.proofs.Consts.{c001, c1000}
+-- law_ok: the law, and v_ref where it is used.
+use Rattle.sheet.specs.Consts.{c001, c1000}
 use Rattle.sheet.specs.Sheet.{lawOk}
-use borrow.Author.Tests.{eq-eqb, ne-eqb, le-leb, lt-leb, lt-ltb, le-ltb, not-true, not-false}
-use mathlib.Core.Path.{_∙_, sym, ap}
+use borrow.Author.Tests.{eq-eqb, ne-eqb, le-leb, lt-leb}
 use borrow.Author.Needs.{needs}
 use Rattle.sheet.proofs.law_ok.Statement.{statement}
 use Rattle.sheet.proofs.law_ok.Tie as tie
-
-within-requires : tie.Need-within-requires
-within-requires c κs = search needs
 
 returns : tie.Need-returns
 unfolding lawOk
@@ -22,4 +19,4 @@ unfolding lawOk
 returns-3 c = simp (ne-eqb _ _ (c .before .if1 .left), lt-leb _ _ (c .if2 .left))
 
 pub law-ok-spec : {M : Type 1} → statement M
-law-ok-spec = tie.close (tie.spec within-requires returns returns-2 returns-3)
+law-ok-spec = tie.close (tie.spec (λ c κs. search needs) returns returns-2 returns-3)

@@ -1,5 +1,5 @@
 -- patch_ok: test 3 of one patch.
-use Rattle.sheet.proofs.Consts.{c1000, c4}
+use Rattle.sheet.specs.Consts.{c1000, c4}
 use Rattle.sheet.specs.Sheet.{patchOk}
 use borrow.Author.Needs.{needs}
 use Rattle.sheet.proofs.patch_ok.Statement.{statement}

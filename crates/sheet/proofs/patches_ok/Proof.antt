@@ -1,11 +1,12 @@
-use Rattle.sheet.specs.Sheet.{all, surfaceOk, patchOk}
+-- patches_ok: test 3, patch by patch.
+use Rattle.sheet.specs.Sheet.{all, patchOk}
 use Rattle.sheet.specs.Scan.{all-next, all-stop, all-end}
 use native.Mathlib.Nat.{add-sub-cancel-left}
 use borrow.Author.Needs.{needs}
 use native.Mathlib.Omega.{arith}
 use borrow.Author.Tests.{not-true, not-false}
-use mathlib.Core.Path.{_≡_, _∙_, sym, ap, refl}
-use Prim.Native.Nat.{_+_, _*_, _-_, _≤_, _<_}
+use mathlib.Core.Path.{_≡_, _∙_, sym, refl}
+use Prim.Native.Nat.{_+_, _-_, _≤_}
 use Rattle.sheet.proofs.patches_ok.Statement.{statement}
 use Rattle.sheet.proofs.patches_ok.Tie as tie
 
@@ -20,9 +21,6 @@ add-end c = omega arith
 
 loop-holds : tie.Need-loop-holds Inv-loop μ-loop
 loop-holds c = (refl, (omega arith, rw add-sub-cancel-left))
-
-patch-ok-requires : tie.Need-patch-ok-requires Inv-loop μ-loop
-patch-ok-requires c κs = search needs
 
 returns : tie.Need-returns Inv-loop μ-loop
 returns c = all-stop (patchOk (c .before .before .before .before .before .args .sheet .now)) (c .before .before .before .loop .i) (c .before .before .before .before .before .args .count + c .before .before .before .before .before .args .n) (omega arith) (sym (c .before .patch-ok .ensures) ∙ not-true _ (c .if1 .taken)) ∙ c .before .before .before .loop .inv .1 .1
@@ -40,16 +38,4 @@ returns-2 : tie.Need-returns-2 Inv-loop μ-loop
 returns-2 c = all-end (patchOk (c .before .before .before .args .sheet .now)) (c .before .loop .i) (c .before .before .before .args .count + c .before .before .before .args .n) (omega arith) ∙ c .before .loop .inv .1 .1
 
 pub patches-ok-spec : {M : Type 1} → statement M
-patches-ok-spec =
-    tie.close
-    (tie.spec
-    Inv-loop
-    μ-loop
-    add-end
-    loop-holds
-    patch-ok-requires
-    returns
-    add-i
-    loop-less
-    loop-again
-    returns-2)
+patches-ok-spec = tie.close (tie.spec Inv-loop μ-loop add-end loop-holds (λ c κs. search needs) returns add-i loop-less loop-again returns-2)

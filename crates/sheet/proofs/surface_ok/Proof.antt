@@ -1,5 +1,5 @@
 -- surface_ok: test 2 of one surface.
-use Rattle.sheet.proofs.Consts.{c0, c1, c10}
+use Rattle.sheet.specs.Consts.{c0, c1, c10}
 use Rattle.sheet.specs.Sheet.{surfaceOk}
 use borrow.Author.Needs.{needs}
 use Rattle.sheet.proofs.surface_ok.Statement.{statement}

@@ -1,12 +1,12 @@
+-- surfaces_ok: test 2, surface by surface.
 use native.Mathlib.Nat.{sub-zero}
-use Rattle.sheet.specs.Sheet.{all, surfaceOk, patchOk}
+use Rattle.sheet.specs.Sheet.{all, surfaceOk}
 use Rattle.sheet.specs.Scan.{all-next, all-stop, all-end}
-use native.Mathlib.Nat.{add-sub-cancel-left}
 use borrow.Author.Needs.{needs}
 use native.Mathlib.Omega.{arith}
 use borrow.Author.Tests.{not-true, not-false}
-use mathlib.Core.Path.{_≡_, _∙_, sym, ap, refl}
-use Prim.Native.Nat.{_+_, _*_, _-_, _≤_, _<_}
+use mathlib.Core.Path.{_≡_, _∙_, sym}
+use Prim.Native.Nat.{_-_, _≤_}
 use Rattle.sheet.proofs.surfaces_ok.Statement.{statement}
 use Rattle.sheet.proofs.surfaces_ok.Tie as tie
 
@@ -18,9 +18,6 @@ abbrev μ-loop : tie.MeasureT-loop
 
 loop-holds : tie.Need-loop-holds Inv-loop μ-loop
 loop-holds c = (omega arith, rw sub-zero)
-
-surface-ok-requires : tie.Need-surface-ok-requires Inv-loop μ-loop
-surface-ok-requires c κs = search needs
 
 returns : tie.Need-returns Inv-loop μ-loop
 returns c = all-stop (surfaceOk (c .before .before .before .before .before .args .sheet .now)) (c .before .before .before .loop .i) (c .before .before .before .before .before .args .end) (omega arith) (sym (c .before .surface-ok .ensures) ∙ not-true _ (c .if1 .taken)) ∙ c .before .before .before .loop .inv .1
@@ -38,15 +35,4 @@ returns-2 : tie.Need-returns-2 Inv-loop μ-loop
 returns-2 c = all-end (surfaceOk (c .before .before .before .args .sheet .now)) (c .before .loop .i) (c .before .before .before .args .end) (omega arith) ∙ c .before .loop .inv .1
 
 pub surfaces-ok-spec : {M : Type 1} → statement M
-surfaces-ok-spec =
-    tie.close
-    (tie.spec
-    Inv-loop
-    μ-loop
-    loop-holds
-    surface-ok-requires
-    returns
-    add-i
-    loop-less
-    loop-again
-    returns-2)
+surfaces-ok-spec = tie.close (tie.spec Inv-loop μ-loop loop-holds (λ c κs. search needs) returns add-i loop-less loop-again returns-2)

@@ -1,6 +1,5 @@
 -- `time_at_threshold` meets its contract.
 use Rattle.slide.specs.Slide.{aboveOf}
-use Prim.Native.Nat.{_-_}
 use native.Mathlib.Omega.{arith}
 use borrow.Author.Needs.{needs}
 use mathlib.Core.Path.{_≡_, refl, _∙_}

@@ -10,8 +10,6 @@ use Rattle.number.specs.Ops.{_⊖_, _⊗_, _⊘_, dec}
 use Rattle.trigonometry.specs.Trig.{oddSeries, whole, one}
 use Rattle.trigonometry.proofs.odd_series.Statement.{statement}
 use Rattle.trigonometry.proofs.odd_series.Tie as tie
-use Rattle.trigonometry.proofs.odd_series.Reads as reads
-use Rattle.trigonometry.proofs.odd_series.Lts as lts
 
 turn : (m : ℕ) (z s : Float) → 0 < m → oddSeries (m - 1) z (one ⊘ whole (2 * (m - 1) + 1) ⊖ z ⊗ s) ≡ oddSeries m z s
 unfolding oddSeries

@@ -1,11 +1,11 @@
 -- `trigonometry::series_at` meets its contract. Assumes nothing.
-use mathlib.Core.Path.{_≡_, refl, sym, ap, _∙_}
+use mathlib.Core.Path.{_≡_, refl, ap, _∙_}
 use Prim.Native.Nat.{ℕ, zero, suc, _≤_, _<_, _+_, _-_, _*_}
 use native.Mathlib.Omega.{arith}
 use native.Mathlib.Nat.{not-suc-le-zero, mul-le-mul}
-use lib.Dec.{T, leb, le→leb}
+use lib.Dec.{T, le→leb}
 use lib.IntN.{pos}
-use lib.Ieee.{Float, binary64, ofInt, inFloat, ofBits, round}
+use lib.Ieee.{Float, binary64, inFloat, ofBits, round}
 use Rattle.number.specs.Ops.{_⊖_, _⊗_, _⊘_}
 use Rattle.trigonometry.specs.Trig.{series, divisor, whole, one}
 use Rattle.trigonometry.proofs.series_at.Statement.{statement}

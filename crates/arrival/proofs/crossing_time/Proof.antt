@@ -1,0 +1,64 @@
+-- The value at the bracket's end, the height at the step's end, and the root.
+use borrow.Author.Needs.{needs}
+use mathlib.Core.Path.{ap}
+use Rattle.tally.specs.Words.{went, halted, look-saw, look-off}
+use Rattle.arrival.specs.Arrival.{crossingTime}
+use Rattle.arrival.specs.Contracts.{valueBy}
+use Rattle.arrival.proofs.crossing_time.Statement.{statement}
+use Rattle.arrival.proofs.crossing_time.Tie as tie
+
+end-value-requires : tie.Need-end-value-requires
+end-value-requires c κs = c .before .before .pre
+
+enum-known-what : tie.Need-enum-known-what
+enum-known-what c = search needs
+
+enum-told : tie.Need-enum-told
+enum-told c = search needs
+
+returns : tie.Need-returns
+unfolding crossingTime
+returns c = λ l. halted _ _ _ _ l (c .before .before .before .end-value .ensures l) (ap valueBy (c .enum-told .given .1))
+
+look-at-requires : tie.Need-look-at-requires
+look-at-requires c κs = c .before .before .before .before .before .before .before .before .before .pre
+
+enum-known-under : tie.Need-enum-known-under
+enum-known-under c = search needs
+
+enum-told-2 : tie.Need-enum-told-2
+enum-told-2 c = search needs
+
+returns-2 : tie.Need-returns-2
+unfolding crossingTime
+returns-2 c = λ l.
+    went _ _ _ _ l (c .before .before .before .before .before .before .before .before .before .before .end-value .ensures l) (ap valueBy (c .before .before .before .before .before .before .before .what .given .1))
+    (look-off _ _ _ _ _ _ (rw (c .before .before .before .before .before .arc-at .ensures) at (c .before .before .before .look-at .ensures)) (c .enum-told2 .given .1))
+
+find-root-requires : tie.Need-find-root-requires
+find-root-requires c κs = c .before .before .before .before .before .before .before .before .before .before .before .before .before .before .before .before .pre
+
+returns-3 : tie.Need-returns-3
+unfolding crossingTime
+returns-3 c = λ l.
+    went _ _ _ _ l (c .before .before .before .before .before .before .before .before .before .before .before .before .before .before .end-value .ensures l) (ap valueBy (c .before .before .before .before .before .before .before .before .before .before .before .what .given .1))
+    (look-saw _ _ _ _ _ _ (rw (c .before .before .before .before .before .before .before .before .before .arc-at .ensures) at (c .before .before .before .before .before .before .before .look-at .ensures)) (c .before .before .before .before .under .given .1)
+    (rw (← c .before .before .ending-at .ensures, ← c .before .guess-in .ensures) (c .find-root .ensures l)))
+
+pub crossing-time-spec : {M : Type 1} → statement M
+crossing-time-spec =
+    tie.close
+    (tie.spec
+    end-value-requires
+    enum-known-what
+    enum-told
+    returns
+    (λ c κs. tt)
+    look-at-requires
+    enum-known-under
+    enum-told-2
+    returns-2
+    (λ c κs. tt)
+    (λ c κs. tt)
+    find-root-requires
+    returns-3)

@@ -1,0 +1,235 @@
+// What other languages call. Lengths count doubles, or bytes for a sheet and an input. Every call is taken and answered; 100 and up are these
+// functions' own answers.
+ghost use mathlib.Core.Path.{_≡_};
+ghost use Prim.Native.Nat.{_≤_};
+ghost use lib.ListN.{length};
+ghost use Rattle.ground.specs.Settle.{terminationNumber};
+ghost use Rattle.capi.specs.Doors.{reported, stepped, struck, door, settleDoor, settleDoorOf, stepDoorOf, impactDoorOf, heightDoorOf};
+ghost use Rattle.capi.specs.Boards.{entered, newDoorOf, enterDoorOf, placeDoorOf};
+use board::Board;
+use board::Entered;
+use ground::ImpactOut;
+use ground::Settled;
+use ground::StepOut;
+use roll::Termination;
+
+fn termination_number(t: Termination) -> u64
+    ensures { λ r. ⌜ r ≡ terminationNumber t ⌝ }
+{
+    match t {
+        Termination::Nothing => 0,
+        Termination::Rest => 1,
+        Termination::MaxTime => 2,
+        Termination::MaxImpacts => 3,
+    }
+}
+
+// The 19 doubles of a settle's result, if there is room for them.
+fn write_result(result: &mut [f64], s: Settled)
+    ensures { λ _. ⌜ now (result .exit) ≡ reported s (now (result .entry)) ⌝ }
+{
+    if result.len() < 19 {
+        return;
+    }
+    let termination = s.termination;
+    let rest = s.rest;
+    let pos = rest.pos;
+    let vel = rest.vel;
+    let spin = rest.spin;
+    let rect = s.rect;
+    let rec = [
+        fields::whole(s.answer as u64),
+        fields::whole(termination_number(termination)),
+        fields::whole(s.contacts as u64),
+        fields::whole(s.points as u64),
+        fields::whole(s.steps),
+        rest.time,
+        pos.x,
+        pos.y,
+        pos.z,
+        vel.x,
+        vel.y,
+        vel.z,
+        spin.x,
+        spin.y,
+        spin.z,
+        rect.x_lo,
+        rect.x_hi,
+        rect.z_lo,
+        rect.z_hi,
+    ];
+    fields::put(result, 0, &rec);
+}
+
+#[no_mangle]
+pub extern "C" fn dimple_settle(
+    input: &[u8],
+    contacts: &mut [f64],
+    points: &mut [f64],
+    result: &mut [f64],
+) -> u32
+    ensures { λ r. ⌜ settleDoor r (now (contacts .exit)) (now (points .exit)) (now (result .exit)) ≡ settleDoorOf (now (input .entry)) (now (contacts .entry)) (now (points .entry)) (now (result .entry)) ⌝ }
+{
+    let s = input::settle_input(input, contacts, points);
+    write_result(result, s);
+    s.answer
+}
+
+// The new state and its phase; on a number the phase alone, 0.
+fn write_step(state: &mut [f64], r: StepOut) -> u32
+    requires { ⌜ length (now state) ≡ 11 ⌝ }
+    ensures { λ a. ⌜ door a (now (state .exit)) ≡ stepped r (now (state .entry)) ⌝ }
+{
+    let answer = r.answer;
+    if answer != 0 {
+        let zero = [0.0];
+        fields::put(state, 10, &zero);
+        return answer;
+    }
+    let s = r.state;
+    let pos = s.pos;
+    let vel = s.vel;
+    let spin = s.spin;
+    let phase = fields::whole(r.phase as u64);
+    let rec = [
+        s.time, pos.x, pos.y, pos.z, vel.x, vel.y, vel.z, spin.x, spin.y, spin.z, phase,
+    ];
+    fields::put(state, 0, &rec);
+    0
+}
+
+#[no_mangle]
+pub extern "C" fn dimple_step(
+    sheet: &[u8],
+    physics: &[f64],
+    ball: &[f64],
+    state: &mut [f64],
+) -> u32
+    ensures { λ r. ⌜ door r (now (state .exit)) ≡ stepDoorOf (now (sheet .entry)) (now (physics .entry)) (now (ball .entry)) (now (state .entry)) ⌝ }
+{
+    if physics.len() != 3 {
+        return 100;
+    }
+    if ball.len() != 12 {
+        return 100;
+    }
+    if state.len() != 11 {
+        return 100;
+    }
+    let s = fields::state_at(state, 0);
+    let b = fields::ball_at(ball, 0);
+    let r = ground::step(sheet, physics[0], physics[1], physics[2], b, s);
+    write_step(state, r)
+}
+
+// The new state; on a number nothing.
+fn write_impact(state: &mut [f64], r: ImpactOut) -> u32
+    requires { ⌜ length (now state) ≡ 10 ⌝ }
+    ensures { λ a. ⌜ door a (now (state .exit)) ≡ struck r (now (state .entry)) ⌝ }
+{
+    let answer = r.answer;
+    if answer != 0 {
+        return answer;
+    }
+    let s = r.state;
+    let pos = s.pos;
+    let vel = s.vel;
+    let spin = s.spin;
+    let rec = [
+        s.time, pos.x, pos.y, pos.z, vel.x, vel.y, vel.z, spin.x, spin.y, spin.z,
+    ];
+    fields::put(state, 0, &rec);
+    0
+}
+
+#[no_mangle]
+pub extern "C" fn dimple_impact(sheet: &[u8], ball: &[f64], state: &mut [f64]) -> u32
+    ensures { λ r. ⌜ door r (now (state .exit)) ≡ impactDoorOf (now (sheet .entry)) (now (ball .entry)) (now (state .entry)) ⌝ }
+{
+    if ball.len() != 12 {
+        return 100;
+    }
+    if state.len() != 10 {
+        return 100;
+    }
+    let s = fields::state_at(state, 0);
+    let b = fields::ball_at(ball, 0);
+    let r = ground::impact(sheet, b, s);
+    write_impact(state, r)
+}
+
+#[no_mangle]
+pub extern "C" fn dimple_height(sheet: &[u8], x: f64, z: f64, height: &mut [f64]) -> u32
+    ensures { λ r. ⌜ door r (now (height .exit)) ≡ heightDoorOf (now (sheet .entry)) x z (now (height .entry)) ⌝ }
+{
+    if height.len() != 1 {
+        return 100;
+    }
+    let h = course::height(sheet, x, z);
+    let rec = [h.height];
+    fields::put(height, 0, &rec);
+    h.answer
+}
+
+// ---- the board, as 771 doubles: the pin's x and z, the count, then 256 times shot, x, z
+
+#[no_mangle]
+pub extern "C" fn dimple_board_new(pin_x: f64, pin_z: f64, board: &mut [f64]) -> u32
+    ensures { λ r. ⌜ door r (now (board .exit)) ≡ newDoorOf «pin_x» «pin_z» (now (board .entry)) ⌝ }
+{
+    if board.len() != 771 {
+        return 100;
+    }
+    let e = Board::new(pin_x, pin_z);
+    let b = e.board;
+    layout::write_board(board, b);
+    e.answer
+}
+
+// The new board; on a number nothing.
+fn write_entered(board: &mut [f64], e: Entered) -> u32
+    requires { ⌜ length (now board) ≡ 771 ⌝ }
+    ensures { λ r. ⌜ door r (now (board .exit)) ≡ entered e (now (board .entry)) ⌝ }
+{
+    let answer = e.answer;
+    if answer != 0 {
+        return answer;
+    }
+    let b = e.board;
+    layout::write_board(board, b);
+    0
+}
+
+#[no_mangle]
+pub extern "C" fn dimple_board_enter(board: &mut [f64], shot: u32, x: f64, z: f64) -> u32
+    ensures { λ r. ⌜ door r (now (board .exit)) ≡ enterDoorOf (now (board .entry)) shot x z ⌝ }
+{
+    if board.len() != 771 {
+        return 100;
+    }
+    if layout::board_ok(board) {
+        let b = layout::board_at(board);
+        return write_entered(board, b.enter(shot, x, z));
+    }
+    101
+}
+
+#[no_mangle]
+pub extern "C" fn dimple_board_place(board: &[f64], place: u64, shot: &mut [f64]) -> u32
+    ensures { λ r. ⌜ door r (now (shot .exit)) ≡ placeDoorOf (now (board .entry)) place (now (shot .entry)) ⌝ }
+{
+    if board.len() != 771 {
+        return 100;
+    }
+    if shot.len() != 1 {
+        return 100;
+    }
+    if layout::board_ok(board) {
+        let b = layout::board_at(board);
+        let p = b.place(place as usize);
+        let rec = [fields::whole(p.shot as u64)];
+        fields::put(shot, 0, &rec);
+        return p.answer;
+    }
+    101
+}

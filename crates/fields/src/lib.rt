@@ -1,0 +1,75 @@
+// Structs in a slice of doubles, field after field, and a run of doubles written at a place.
+ghost use mathlib.Core.Path.{_≡_};
+ghost use Prim.Native.Nat.{_+_, _≤_};
+ghost use lib.ListN.{length};
+ghost use Rattle.fields.specs.Fields.{wholeOf, vecAt, stateAt, ballAt, written};
+use aero::BallModel;
+use surface::BallState;
+use vector::DVec3;
+
+// A whole number as a double.
+pub fn whole(n: u64) -> f64
+    ensures { λ r. ⌜ r ≡ wholeOf n ⌝ }
+{
+    std::num::nearest_u64_to_f64(n)
+}
+
+pub fn vec_at(s: &[f64], o: usize) -> DVec3
+    requires { ⌜ o + 3 ≤ length (now s) ⌝ }
+    ensures { λ r. ⌜ r ≡ vecAt (now (s .entry)) o ⌝ }
+{
+    DVec3 {
+        x: s[o],
+        y: s[o + 1],
+        z: s[o + 2],
+    }
+}
+
+// Time, pos, vel, spin.
+pub fn state_at(s: &[f64], o: usize) -> BallState
+    requires { ⌜ o + 10 ≤ length (now s) ⌝ }
+    ensures { λ r. ⌜ r ≡ stateAt (now (s .entry)) o ⌝ }
+{
+    let pos = vec_at(s, o + 1);
+    let vel = vec_at(s, o + 4);
+    let spin = vec_at(s, o + 7);
+    BallState {
+        time: s[o],
+        pos,
+        vel,
+        spin,
+    }
+}
+
+// The twelve fields of a ball in the struct's order.
+pub fn ball_at(s: &[f64], o: usize) -> BallModel
+    requires { ⌜ o + 12 ≤ length (now s) ⌝ }
+    ensures { λ r. ⌜ r ≡ ballAt (now (s .entry)) o ⌝ }
+{
+    BallModel {
+        mass_kg: s[o],
+        diameter_m: s[o + 1],
+        inertia_factor: s[o + 2],
+        cd_sub: s[o + 3],
+        cd_super: s[o + 4],
+        cd_spin: s[o + 5],
+        sr_sat: s[o + 6],
+        cl_sub: s[o + 7],
+        cl_super: s[o + 8],
+        sr_scale: s[o + 9],
+        re_crit: s[o + 10],
+        re_width: s[o + 11],
+    }
+}
+
+// Writes the record from `at` on.
+pub fn put(out: &mut [f64], at: usize, rec: &[f64])
+    requires { ⌜ at + length (now rec) ≤ length (now out) ⌝ }
+    ensures { λ _. ⌜ now (out .exit) ≡ written (now (out .entry)) at (now (rec .entry)) ⌝ }
+{
+    let mut i = 0;
+    while i < rec.len() {
+        out[at + i] = rec[i];
+        i += 1;
+    }
+}

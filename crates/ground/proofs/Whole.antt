@@ -1,0 +1,106 @@
+-- From the tests and the run to what the caller sees.
+use Prim.Native.Nat.{ℕ, _/_, zero-le}
+use native.Mathlib.Omega.{arith}
+use mathlib.Core.Path.{_≡_, refl, ap, _∙_}
+use mathlib.Core.Bool.{Bool, true, false, not}
+use mathlib.Core.List.{List}
+use lib.Dec.{eqb}
+use lib.Ieee.{Float}
+use lib.ListN.{length}
+use borrow.Author.Tests.{eqb-true}
+use Rattle.surface.specs.declared.BallState.{BallState}
+use Rattle.aero.specs.declared.BallModel.{BallModel}
+use Rattle.look.specs.Rect.{noRect}
+use Rattle.look.specs.Tree.{exec, did, Did}
+use Rattle.look.specs.declared.Rect.{Rect}
+use Rattle.course.specs.Sheet.{answerOf, courseOf}
+use Rattle.records.specs.Records.{Clean, recs, shown, zeroed}
+use Rattle.records.proofs.Laws.{shows, clean-zeroed, zeroed-length, recs-length}
+use Rattle.tally.specs.Language.{Ran, ran, Log, Outcome, if_then_else_}
+use Rattle.tally.specs.Contracts.{logOf, Grown}
+use Rattle.tally.specs.declared.GroundPhysics.{GroundPhysics}
+use Rattle.tally.specs.declared.Conditions.{Conditions}
+use Rattle.train.specs.Contracts.{lent, endedBy, TrainRuns}
+use Rattle.train.specs.declared.RunOut.{RunOut}
+use Rattle.ground.specs.Tests.{wholes, inputTest, refusalOf, stepTest, impactTest, stepPhysicsOk, ballOk, landingOk}
+use Rattle.ground.specs.Settle.{result, reportOf, conditionsOf, runOf, settleOf}
+use Rattle.ground.specs.Contracts.{settledBy}
+use Rattle.surface.specs.declared.GroundSample.{GroundSample}
+use Rattle.aero.specs.Aero.{radiusOf}
+use Rattle.contact.specs.Contact.{ontoOf}
+use Rattle.slide.specs.ContactStep.{contactStepOf}
+use Rattle.slide.specs.declared.Stepped.{Stepped}
+use Rattle.look.specs.Tree.{Oracle, lookTree}
+use Rattle.look.specs.declared.Look.{Look}
+use Rattle.look.specs.declared.Look.the-variants.{Saw}
+use Rattle.tally.specs.Language.{M, _>>=_, _>>_, pure, look, test}
+use Rattle.tally.specs.Words.{look-saw}
+use Rattle.roll.specs.Roll.{lastOf}
+use Rattle.ground.specs.Step.{stepOut, stepBy, stepRun, stepMade, impactBy, impactRun, impactMade}
+use Rattle.ground.specs.Settle.{firstLog}
+use Rattle.ground.specs.declared.StepOut.{StepOut}
+
+-- a sheet that passed its tests
+past : (a m : ℕ) → (if not (eqb a 0) then a else m) ≡ 0 → a ≡ 0
+past a m h = go (eqb a 0) refl h
+  where
+    go : (z : Bool) → eqb a 0 ≡ z → (if not z then a else m) ≡ 0 → a ≡ 0
+    go true e h = eqb-true a 0 e
+    go false e h = h
+
+pub settle-sheet : (s : List ℕ) (p : GroundPhysics) (limit : ℕ) (ball : BallModel) (density : Float) (landing : BallState) (nc np : ℕ) → refusalOf s p limit ball density landing nc np ≡ 0 → answerOf s ≡ 0
+unfolding refusalOf
+settle-sheet s p limit ball density landing nc np h = go (wholes nc np) h
+  where
+    go : (w : Bool) → (if not w then 8 else if not (eqb (answerOf s) 0) then answerOf s else inputTest p limit ball density landing) ≡ 0 → answerOf s ≡ 0
+    go true h = past _ _ h
+    go false h = absurd (omega (arith, h))
+
+pub step-sheet : (s : List ℕ) (dt stop roll : Float) (ball : BallModel) (state : BallState) → stepTest s dt stop roll ball state ≡ 0 → answerOf s ≡ 0
+unfolding stepTest
+step-sheet s dt stop roll ball state h = past _ _ h
+
+pub impact-sheet : (s : List ℕ) (ball : BallModel) (state : BallState) → impactTest s ball state ≡ 0 → answerOf s ≡ 0
+unfolding impactTest
+impact-sheet s ball state h = past _ _ h
+
+-- a list that was zeroed, and then grew, is the records and +0 after them
+seen : (w n : ℕ) (l m : List Float) → Grown w 0 (zeroed l 0) n m → Clean w 0 (zeroed l 0) → length m ≡ length (zeroed l 0) → m ≡ shown (length l) (recs w n m)
+seen w n l m g c e = shows w n m (g .clean c) ∙ ap (λ (k : ℕ). shown k (recs w n m)) (e ∙ zeroed-length l 0)
+
+-- an accepted settle
+pub settled-whole : (s : List ℕ) (p : GroundPhysics) (limit : ℕ) (ball : BallModel) (density : Float) (landing : BallState) (cs ps : List Float) (r : RunOut) {c : Conditions} {mc mp : List Float}
+    → refusalOf s p limit ball density landing (length cs) (length ps) ≡ 0 → c ≡ conditionsOf p limit ball density landing
+    → TrainRuns (courseOf s) c landing (zeroed cs 0) (zeroed ps 0) r mc mp → length mc ≡ length (zeroed cs 0) → length mp ≡ length (zeroed ps 0)
+    → result (settledBy r) mc mp ≡ settleOf s p limit ball density landing cs ps
+unfolding settleOf reportOf runOf recs
+settled-whole s p limit ball density landing cs ps r {mc = mc} {mp} h ec t lc lp =
+    let vc = seen 20 (r .contacts) cs mc (t .contacts) (clean-zeroed 20 0 cs zero-le) lc in
+    let vp = seen 11 (r .tally .points) ps mp (t .points) (clean-zeroed 11 0 ps zero-le) lp in
+    let a : result (settledBy r) mc mp ≡ reportOf (length cs) (length ps) (did (ran (endedBy (r .end)) (logOf (lent (length cs / 20) (r .contacts) mc) (length ps / 11) (r .tally) mp)) (r .tally .rect))
+    = rw (recs-length 20 (r .contacts) mc, recs-length 11 (r .tally .points) mp, ← vc, ← vp) in
+    rw h (a ∙ ap (reportOf (length cs) (length ps)) (rw (zeroed-length cs 0, zeroed-length ps 0, ec) at (t .same)))
+
+-- a step, an impact
+pub step-by : (s : List ℕ) (dt stop roll : Float) (ball : BallModel) (state : BallState) (x : Outcome StepOut) {l : Log} {q : Rect}
+    → did (ran x l) q ≡ exec (courseOf s) noRect (stepRun dt stop roll ball state (firstLog state 0 0)) → stepBy state x ≡ stepMade s dt stop roll ball state
+unfolding stepMade
+step-by s dt stop roll ball state x e = ap (λ (d : Did (Ran StepOut)). stepBy state (d .value .outcome)) e
+
+-- a step after its first look
+abbrev pub stepRest : BallModel → GroundSample → Stepped → M StepOut
+stepRest ball at m = do
+  under ← look m.state.pos.x m.state.pos.z
+  b ← test (ontoOf m.state under at.normal m.rolling (radiusOf ball))
+  pure (stepOut 0 b (lastOf m.phase))
+
+pub step-hit : (o : Oracle) (dt stop roll : Float) (ball : BallModel) (state : BallState) (l : Log) (q : Rect) {w : Look} {q1 : Rect} {at : GroundSample} {m : Stepped} {d : Did (Ran StepOut)}
+    → did w q1 ≡ exec o q (lookTree (state .pos .x) (state .pos .z)) → w ≡ Saw at → m ≡ contactStepOf state at ball dt stop roll
+    → d ≡ exec o q1 (stepRest ball at m l) → d ≡ exec o q (stepRun dt stop roll ball state l)
+unfolding stepRun
+step-hit o dt stop roll ball state l q e h em p = look-saw o q l _ _ _ e h (rw (← em) p)
+
+pub impact-by : (s : List ℕ) (ball : BallModel) (state : BallState) (x : Outcome BallState) {l : Log} {q : Rect}
+    → did (ran x l) q ≡ exec (courseOf s) noRect (impactRun ball state (firstLog state 0 0)) → impactBy state x ≡ impactMade s ball state
+unfolding impactMade
+impact-by s ball state x e = ap (λ (d : Did (Ran BallState)). impactBy state (d .value .outcome)) e

@@ -1,0 +1,39 @@
+-- The tests of a step.
+use borrow.Author.Tests.{eq-eqb, ne-eqb, not-true, not-false}
+use Rattle.ground.specs.Tests.{stepTest}
+use Rattle.ground.proofs.step_test.Statement.{statement}
+use Rattle.ground.proofs.step_test.Tie as tie
+
+returns : tie.Need-returns
+unfolding stepTest
+returns c = rw (← c .before .check-sheet .ensures, ne-eqb _ _ (c .if1 .taken))
+
+returns-2 : tie.Need-returns-2
+unfolding stepTest
+returns-2 c = rw (← c .before .before .before .check-sheet .ensures, eq-eqb _ _ (c .before .before .if1 .left), ← c .before .step-physics-ok .ensures, not-true (c .before .step-physics-ok .result) (c .if2 .taken))
+
+returns-3 : tie.Need-returns-3
+unfolding stepTest
+returns-3 c = rw (← c .before .before .before .before .before .check-sheet .ensures, eq-eqb _ _ (c .before .before .before .before .if1 .left), ← c .before .before .before .step-physics-ok .ensures, not-false (c .before .before .before .step-physics-ok .result) (c .before .before .if2 .left), ← c .before .ball-ok .ensures, not-true (c .before .ball-ok .result) (c .if3 .taken))
+
+returns-4 : tie.Need-returns-4
+unfolding stepTest
+returns-4 c = rw (← c .before .before .before .before .before .before .before .check-sheet .ensures, eq-eqb _ _ (c .before .before .before .before .before .before .if1 .left), ← c .before .before .before .before .before .step-physics-ok .ensures, not-false (c .before .before .before .before .before .step-physics-ok .result) (c .before .before .before .before .if2 .left), ← c .before .before .before .ball-ok .ensures, not-false (c .before .before .before .ball-ok .result) (c .before .before .if3 .left), ← c .before .landing-ok .ensures, not-true (c .before .landing-ok .result) (c .if4 .taken))
+
+returns-5 : tie.Need-returns-5
+unfolding stepTest
+returns-5 c = rw (← c .before .before .before .before .before .before .before .check-sheet .ensures, eq-eqb _ _ (c .before .before .before .before .before .before .if1 .left), ← c .before .before .before .before .before .step-physics-ok .ensures, not-false (c .before .before .before .before .before .step-physics-ok .result) (c .before .before .before .before .if2 .left), ← c .before .before .before .ball-ok .ensures, not-false (c .before .before .before .ball-ok .result) (c .before .before .if3 .left), ← c .before .landing-ok .ensures, not-false (c .before .landing-ok .result) (c .if4 .left))
+
+pub step-test-spec : {M : Type 1} → statement M
+step-test-spec =
+    tie.close
+    (tie.spec
+    (λ c κs. tt)
+    returns
+    (λ c κs. tt)
+    returns-2
+    (λ c κs. tt)
+    returns-3
+    (λ c κs. tt)
+    returns-4
+    returns-5)

@@ -1,0 +1,5 @@
+pub mod Tests
+pub mod Settle
+pub mod Contracts
+pub mod Demand
+pub mod Step

@@ -1,0 +1,23 @@
+-- `put_counts` writes the three counts.
+use borrow.Author.Needs.{needs}
+use Rattle.line.specs.Line.{countsOf}
+use Rattle.line.proofs.Laws.{both}
+use Rattle.line.proofs.put_counts.Statement.{statement}
+use Rattle.line.proofs.put_counts.Tie as tie
+
+returns : tie.Need-returns
+unfolding countsOf
+returns c = both (both (c .before .before .before .before .before .before .before .before .before .before .before .before .put-count .ensures) (c .before .before .before .before .before .before .before .put-count2 .ensures)) (c .before .before .put-count3 .ensures)
+
+pub put-counts-spec : {M : Type 1} → statement M
+put-counts-spec =
+    tie.close
+    (tie.spec
+    (λ c. search needs)
+    (λ c κs. search needs)
+    (λ c. search needs)
+    (λ c κs. search needs)
+    (λ c. search needs)
+    (λ c κs. search needs)
+    (λ c. search needs)
+    returns)

@@ -1,0 +1,87 @@
+-- The line that the program settle prints (01, "Lists and the rest of the shop" and "Bench shots"), as bytes in ASCII.
+use Prim.Native.Nat.{ℕ, zero, suc, _+_, _/_, _%_, _≤_}
+use mathlib.Core.Path.{_≡_}
+use mathlib.Core.Bool.{_&&_, cond}
+use mathlib.Core.List.{List, [], _∷_, _++_}
+use lib.Dec.{leb, ltb}
+use lib.ListN.{length, take, replicate}
+use lib.Ieee.{Float}
+use Rattle.number.specs.Ops.{dec}
+use Rattle.ground.specs.declared.Settled.{Settled}
+use Rattle.roll.specs.declared.Termination.{Termination}
+use Rattle.roll.specs.declared.Termination.the-variants.{Nothing, Rest, MaxTime, MaxImpacts}
+use Rattle.input.specs.Input.{settleInputOf}
+
+-- ---- numbers
+
+-- the decimal digits of n, the most significant first: the last k digits, without leading zeros
+unfoldable pub decimalIn : ℕ → ℕ → List ℕ
+decimalIn zero n = []
+decimalIn (suc k) n = cond (ltb n 10) ((48 + n) ∷ []) (decimalIn k (n / 10) ++ ((48 + n % 10) ∷ []))
+
+-- a u64 has at most 20
+unfoldable pub decimalOf : ℕ → List ℕ
+decimalOf n = decimalIn 20 n
+
+-- ---- words
+
+-- "answer "
+abbrev pub answerWord : List ℕ
+answerWord = 97 ∷ 110 ∷ 115 ∷ 119 ∷ 101 ∷ 114 ∷ 32 ∷ []
+
+-- " contacts "
+abbrev pub contactsWord : List ℕ
+contactsWord = 32 ∷ 99 ∷ 111 ∷ 110 ∷ 116 ∷ 97 ∷ 99 ∷ 116 ∷ 115 ∷ 32 ∷ []
+
+-- " points "
+abbrev pub pointsWord : List ℕ
+pointsWord = 32 ∷ 112 ∷ 111 ∷ 105 ∷ 110 ∷ 116 ∷ 115 ∷ 32 ∷ []
+
+-- " steps "
+abbrev pub stepsWord : List ℕ
+stepsWord = 32 ∷ 115 ∷ 116 ∷ 101 ∷ 112 ∷ 115 ∷ 32 ∷ []
+
+-- line feed
+abbrev pub lineEnd : List ℕ
+lineEnd = 10 ∷ []
+
+-- " -" where nothing ended it (20 to 23), " rest", " time", " impacts"
+unfoldable pub terminationOf : Termination → List ℕ
+terminationOf Nothing = 32 ∷ 45 ∷ []
+terminationOf Rest = 32 ∷ 114 ∷ 101 ∷ 115 ∷ 116 ∷ []
+terminationOf MaxTime = 32 ∷ 116 ∷ 105 ∷ 109 ∷ 101 ∷ []
+terminationOf MaxImpacts = 32 ∷ 105 ∷ 109 ∷ 112 ∷ 97 ∷ 99 ∷ 116 ∷ 115 ∷ []
+
+-- " contacts C points P steps S"
+unfoldable pub countsOf : ℕ → ℕ → ℕ → List ℕ
+countsOf c p s = ((contactsWord ++ decimalOf c) ++ (pointsWord ++ decimalOf p)) ++ (stepsWord ++ decimalOf s)
+
+-- ---- the line
+
+-- "answer N" where the input was refused (1 to 8 and 12), else "answer N T contacts C points P steps S"
+unfoldable pub shownOf : Settled → List ℕ
+shownOf r =
+    cond (leb 1 (r .answer) && leb (r .answer) 12)
+    ((answerWord ++ decimalOf (r .answer)) ++ lineEnd)
+    ((((answerWord ++ decimalOf (r .answer)) ++ terminationOf (r .termination)) ++ countsOf (r .contacts) (r .points) (r .steps)) ++ lineEnd)
+
+-- +0
+abbrev pub nought : Float
+nought = dec 0 1
+
+-- the line for the program's input, with 64 contacts and 640 points lent, all +0 before
+unfoldable pub lineOf : List ℕ → List ℕ
+lineOf input = shownOf (settleInputOf input (replicate 1280 nought) (replicate 7040 nought) .settled)
+
+-- ---- what inner functions give
+
+-- t is written from index o of l on: m is what stands then, and r the index after it
+pub record Adds (l : List ℕ) (o : ℕ) (t : List ℕ) (r : ℕ) (m : List ℕ) : Type 0 where
+  pub next : r ≡ o + length t
+  pub same : take r m ≡ take o l ++ t
+  pub long : length m ≡ length l
+
+-- the same, with at most w bytes
+pub record Puts (w : ℕ) (l : List ℕ) (o : ℕ) (t : List ℕ) (r : ℕ) (m : List ℕ) : Type 0 where
+  pub adds : Adds l o t r m
+  pub most : length t ≤ w

@@ -1,0 +1,19 @@
+-- `probe_contact_step` reads a state, a sample, a ball and three limits and writes the state after the step.
+use native.Mathlib.Omega.{arith}
+use Rattle.probe.specs.Doors.{wrong-input, wrong-out, right, contactStepRow}
+use borrow.Author.Needs.{needs}
+use Rattle.probe.proofs.probe_contact_step.Statement.{statement}
+use Rattle.probe.proofs.probe_contact_step.Tie as tie
+
+returns : tie.Need-returns
+returns c = wrong-input _ _ _ _ _ (c .if1 .taken)
+
+returns-2 : tie.Need-returns-2
+returns-2 c = wrong-out _ _ _ _ _ (omega arith) (c .if2 .taken)
+
+returns-3 : tie.Need-returns-3
+unfolding contactStepRow
+returns-3 c = right _ _ _ _ _ (omega arith) (omega arith) _ (simp (← c .before .before .before .before .before .before .before .before .before .before .state-at .ensures, ← c .before .before .before .before .before .before .before .before .before .sample-at .ensures, ← c .before .before .before .before .before .before .before .before .ball-at .ensures, ← c .before .before .before .contact-step .ensures) (c .before .before .fill-stepped .ensures))
+
+pub probe-contact-step-spec : {M : Type 1} → statement M
+probe-contact-step-spec = tie.close (tie.spec returns returns-2 (λ c κs. search needs) (λ c κs. search needs) (λ c κs. search needs) (λ c. search needs) (λ c. search needs) (λ c. search needs) (λ c κs. search needs) (λ c κs. search needs) (λ c. search needs) returns-3)

@@ -1,0 +1,20 @@
+-- The door of the ball put back onto the ground.
+use native.Mathlib.Omega.{arith}
+use lib.Ieee.{ofBits, round}
+use borrow.Author.Needs.{needs}
+use Rattle.probe.specs.Doors.{wrong-input, wrong-out, right, ontoSurfaceRow}
+use Rattle.probe.proofs.probe_onto_surface.Statement.{statement}
+use Rattle.probe.proofs.probe_onto_surface.Tie as tie
+
+returns : tie.Need-returns
+returns c = wrong-input _ _ _ _ _ (c .if1 .taken)
+
+returns-2 : tie.Need-returns-2
+returns-2 c = wrong-out _ _ _ _ _ (omega arith) (c .if2 .taken)
+
+returns-3 : tie.Need-returns-3
+unfolding ontoSurfaceRow ofBits round
+returns-3 c = right _ _ _ _ _ (omega arith) (omega arith) _ (simp (← c .before .before .before .before .before .before .before .before .before .state-at .ensures, ← c .before .before .before .before .before .before .before .before .sample-at .ensures, ← c .before .before .before .before .before .before .before .vec-at .ensures, ← c .before .before .before .onto-surface .ensures) (c .before .before .fill-state .ensures))
+
+pub probe-onto-surface-spec : {M : Type 1} → statement M
+probe-onto-surface-spec = tie.close (tie.spec returns returns-2 (λ c κs. search needs) (λ c κs. search needs) (λ c κs. search needs) (λ c. search needs) (λ c. search needs) (λ c κs. search needs) (λ c κs. search needs) (λ c. search needs) returns-3)

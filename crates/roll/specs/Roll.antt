@@ -1,0 +1,71 @@
+-- One pass of the ground: the body of the second loop of ground.rs, fn settle, with the tests and the count of steps that 01 adds.
+use Prim.Native.Nat.{ℕ}
+use mathlib.Core.Bool.{Bool, true, false, _&&_, cond, not}
+use lib.Dec.{eqb}
+use lib.Ieee.{Float}
+use Rattle.number.specs.Ops.{_⊖_}
+use Rattle.number.specs.Number.{minOf}
+use Rattle.vector.specs.Vec.{zero3, sameVec}
+use Rattle.surface.specs.declared.BallState.{BallState}
+use Rattle.surface.specs.declared.GroundSample.{GroundSample}
+use Rattle.aero.specs.Aero.{radiusOf}
+use Rattle.contact.specs.Contact.{ontoOf, sampleHolds}
+use Rattle.slide.specs.ContactStep.{contactStepOf}
+use Rattle.slide.specs.declared.Phase.{Phase}
+use Rattle.slide.specs.declared.Phase.the-variants.{Hop, Slide, Roll as InRoll}
+use Rattle.slide.specs.declared.Stepped.{Stepped}
+use Rattle.tally.specs.Times.{isDue, nextAfter}
+use Rattle.tally.specs.Language.{M, _>>=_, _>>_, pure, if_then_else_, when, countStep, look, test, pushPoint, Pass, again, over}
+use Rattle.tally.specs.declared.Conditions.{Conditions}
+use Rattle.roll.specs.declared.Roll.{Roll}
+use Rattle.roll.specs.declared.Ending.{Ending}
+use Rattle.roll.specs.declared.Termination.{Termination}
+use Rattle.roll.specs.declared.Termination.the-variants.{Rest}
+
+abbrev pub ending : Termination → BallState → Ending
+ending h s = record { how = h; state = s }
+
+abbrev pub roll : BallState → GroundSample → Float → ℕ → Roll
+roll s at next last = record { state = s; «at» = at; «next_sample» = next; last = last }
+
+-- `let h = self.dt.min(t_end - state.time); contact_step(&state, &at, ball, h, self.stop_speed, self.roll_threshold)`
+unfoldable pub stepOn : Conditions → Roll → Stepped
+stepOn c g =
+    let h = minOf c.physics.dt (c.«t_end» ⊖ g.state.time) in
+    contactStepOf g.state g.«at» c.ball h c.physics.«stop_speed» c.physics.«roll_threshold»
+
+-- `last_phase = Some(phase)`: 0 stands for None. A contact step is a slide or a roll.
+unfoldable pub lastOf : Phase → ℕ
+lastOf Hop = 0
+lastOf Slide = 1
+lastOf InRoll = 2
+
+-- `state.time >= next_sample - TIME_EPS || last_phase != Some(phase)`
+unfoldable pub pointDue : Float → Float → ℕ → Phase → Bool
+pointDue t next last phase = cond (isDue t next) true (not (eqb last (lastOf phase)))
+
+abbrev pub inRoll : Phase → Bool
+inRoll Hop = false
+inRoll Slide = false
+inRoll InRoll = true
+
+-- `stopped && under.holds_at_rest()`, where `stopped = phase == Phase::Roll && next.vel == DVec3::ZERO`
+unfoldable pub heldOf : Stepped → GroundSample → Bool
+heldOf s under = (inRoll s.phase && sameVec s.state.vel zero3) && sampleHolds under
+
+-- `onto_surface(&next, &under, at.normal, rolling, radius)`
+unfoldable pub putDown : Conditions → Roll → Stepped → GroundSample → BallState
+putDown c g s under = ontoOf s.state under g.«at».normal s.rolling (radiusOf c.ball)
+
+-- one pass
+unfoldable pub groundStep : Conditions → Roll → M (Pass Roll Ending)
+groundStep c g = do
+  let s = stepOn c g
+  countStep
+  let due = pointDue g.state.time g.«next_sample» g.last s.phase
+  when due (pushPoint g.state s.phase)
+  under ← look s.state.pos.x s.state.pos.z
+  b ← test (putDown c g s under)
+  if not (heldOf s under) then pure (again (roll b under (nextAfter due g.«next_sample» g.state.time) (lastOf s.phase))) else do
+    pushPoint b InRoll
+    pure (over (ending Rest b))

@@ -1,0 +1,13 @@
+-- The first pass of the ground.
+use mathlib.Core.Path.{refl}
+use Rattle.train.proofs.roll_of.Statement.{statement}
+use Rattle.train.proofs.roll_of.Tie as tie
+
+returns : tie.Need-returns
+returns c = refl
+
+pub roll-of-spec : {M : Type 1} → statement M
+roll-of-spec =
+    tie.close
+    (tie.spec
+    returns)
