@@ -1,7 +1,6 @@
 // What other languages call. Lengths count doubles, or bytes for a sheet and an input. Every call is taken and answered; 100 and up are these
 // functions' own answers.
 ghost use mathlib.Core.Path.{_≡_};
-ghost use Prim.Native.Nat.{_≤_};
 ghost use lib.ListN.{length};
 ghost use Rattle.ground.specs.Settle.{terminationNumber};
 ghost use Rattle.capi.specs.Doors.{reported, stepped, struck, door, settleDoor, settleDoorOf, stepDoorOf, impactDoorOf, heightDoorOf};
@@ -92,19 +91,24 @@ fn write_step(state: &mut [f64], r: StepOut) -> u32
     let spin = s.spin;
     let phase = fields::whole(r.phase as u64);
     let rec = [
-        s.time, pos.x, pos.y, pos.z, vel.x, vel.y, vel.z, spin.x, spin.y, spin.z, phase,
+        s.time,
+        pos.x,
+        pos.y,
+        pos.z,
+        vel.x,
+        vel.y,
+        vel.z,
+        spin.x,
+        spin.y,
+        spin.z,
+        phase,
     ];
     fields::put(state, 0, &rec);
     0
 }
 
 #[no_mangle]
-pub extern "C" fn dimple_step(
-    sheet: &[u8],
-    physics: &[f64],
-    ball: &[f64],
-    state: &mut [f64],
-) -> u32
+pub extern "C" fn dimple_step(sheet: &[u8], physics: &[f64], ball: &[f64], state: &mut [f64]) -> u32
     ensures { λ r. ⌜ door r (now (state .exit)) ≡ stepDoorOf (now (sheet .entry)) (now (physics .entry)) (now (ball .entry)) (now (state .entry)) ⌝ }
 {
     if physics.len() != 3 {
@@ -136,7 +140,16 @@ fn write_impact(state: &mut [f64], r: ImpactOut) -> u32
     let vel = s.vel;
     let spin = s.spin;
     let rec = [
-        s.time, pos.x, pos.y, pos.z, vel.x, vel.y, vel.z, spin.x, spin.y, spin.z,
+        s.time,
+        pos.x,
+        pos.y,
+        pos.z,
+        vel.x,
+        vel.y,
+        vel.z,
+        spin.x,
+        spin.y,
+        spin.z,
     ];
     fields::put(state, 0, &rec);
     0

@@ -3,3 +3,5 @@ pub mod Settle
 pub mod Contracts
 pub mod Demand
 pub mod Step
+pub mod Keeps
+pub mod Finite

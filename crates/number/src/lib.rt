@@ -38,7 +38,11 @@ pub fn signum(x: f64) -> f64
     if x != x {
         return x;
     }
-    if f64::to_bits(x) < 9223372036854775808 { 1.0 } else { -1.0 }
+    if f64::to_bits(x) < 9223372036854775808 {
+        1.0
+    } else {
+        -1.0
+    }
 }
 
 // No NaN and no infinity: their difference with themselves is a NaN.

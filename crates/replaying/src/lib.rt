@@ -2,8 +2,8 @@
 ghost use Prim.Native.Nat.{_+_, _*_, _≤_};
 ghost use lib.ListN.{length};
 use ground::Settled;
-use roll::Termination;
 use look::Rect;
+use roll::Termination;
 use surface::BallState;
 use vector::DVec3;
 

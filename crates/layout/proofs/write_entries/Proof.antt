@@ -2,7 +2,7 @@
 use Prim.Native.Nat.{ℕ, _+_, _*_, _-_, _≤_}
 use native.Mathlib.Omega.{arith}
 use native.Mathlib.Numerals.{add-one}
-use mathlib.Core.Path.{_≡_, refl, ap, _∙_, sym, subst}
+use mathlib.Core.Path.{_≡_, ap, _∙_, sym, subst}
 use mathlib.Core.List.{List, _++_, append-nil, append-assoc}
 use lib.Ieee.{Float, nan}
 use lib.ListN.{length, take, getD}
@@ -29,11 +29,10 @@ unfolding entriesFields
 next l₀ l m es i b h t e =
     let r = entryFields (getD es i (record { shot = 0; x = nan; z = nan })) in
     let f : 3 + 3 * i + 3 ≤ length l = omega arith in
-    let k : 3 + 3 * (i + 1) ≡ 3 + 3 * i + 3 = omega arith in
-    (
+    let k : 3 + 3 * (i + 1) ≡ 3 + 3 * i + 3 = omega arith in (
       ap length e ∙ length-written l (3 + 3 * i) r f ∙ h,
       ap (take (3 + 3 * (i + 1))) e ∙ ap (λ (n : ℕ). take n (written l (3 + 3 * i) r)) k ∙ take-written l (3 + 3 * i) r f
-      ∙ ap (λ (x : List Float). x ++ r) t ∙ append-assoc (take 3 l₀) (entriesFields es i) r ∙ rw add-one,
+          ∙ ap (λ (x : List Float). x ++ r) t ∙ append-assoc (take 3 l₀) (entriesFields es i) r ∙ rw add-one,
     )
 
 loop-holds : tie.Need-loop-holds Inv-loop μ-loop

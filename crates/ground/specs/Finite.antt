@@ -1,0 +1,338 @@
+-- What a settle leaves, under every answer: each pushed point is that of a state that passed test 22, each contact that of two such states (or the
+-- landing) and of a sample of the course, no more of either than the lists have room for, and no more steps than step_limit.
+use Prim.Native.Nat.{ℕ, zero, suc, _+_, _/_, _≤_, zero-le}
+use native.Mathlib.Omega.{arith}
+use mathlib.Core.Path.{_≡_, refl, ap}
+use mathlib.Core.List.{List, [], _∷_}
+use lib.ListN.{length}
+use mathlib.Core.Bool.{Bool, true, false, not, _&&_}
+use mathlib.Core.Option.{Option, none, some}
+use lib.Dec.{eqb, T}
+use lib.Ieee.{Float, le, eq, neg, round}
+use Rattle.number.specs.Number.{withinOf, aboutOf, finiteOf}
+use Rattle.number.specs.Order.{within-of, within-lo, within-hi, within-finite, le-through}
+use Rattle.look.specs.Rect.{coordOk}
+use Rattle.number.specs.Ops.{dec}
+use Rattle.surface.specs.declared.BallState.{BallState}
+use Rattle.surface.specs.declared.GroundSample.{GroundSample}
+use Rattle.aero.specs.declared.AeroParams.{AeroParams}
+use Rattle.slide.specs.declared.Phase.{Phase}
+use Rattle.slide.specs.declared.Phase.the-variants.{Hop as InHop, Slide as InSlide, Roll as InRoll}
+use Rattle.vector.specs.declared.DVec3.{DVec3}
+use Rattle.aero.specs.declared.BallModel.{BallModel}
+use Rattle.look.specs.Rect.{noRect}
+use Rattle.look.specs.Agree.{exec-is}
+use Rattle.look.specs.Tree.{Tree, Oracle, Did, exec, run}
+use Rattle.course.specs.Sheet.{answerOf, courseOf}
+use Rattle.records.specs.Records.{Records, shown}
+use Rattle.tally.specs.declared.GroundPhysics.{GroundPhysics}
+use Rattle.search.specs.Search.{rootFrom, findRoot, afterStep, narrowed, inBracket}
+use Rattle.search.specs.declared.Bracket.{Bracket}
+use Rattle.search.specs.declared.Search.{Search}
+use Rattle.search.specs.declared.RootStep.{RootStep}
+use Rattle.search.specs.declared.RootStep.the-variants.{Next, Found}
+use Rattle.tally.specs.Language.{M, inM, if_then_else_, Ran, Outcome, goes, stops, phaseNumber, vecOk, stateOk}
+use Rattle.tally.specs.declared.Conditions.{Conditions}
+use Rattle.arrival.specs.Arrival.{clearance, clearanceAt, subStep, crossingFrom, firstCrossing, endValue, crossingTime, hopArrival}
+use Rattle.arrival.specs.declared.Arc.{Arc}
+use Rattle.hop.specs.Hop.{hopNext, hopStep, hopFrom, hop}
+use Rattle.hop.specs.declared.Flight.{Flight}
+use Rattle.hop.specs.declared.Way.{Way}
+use Rattle.hop.specs.declared.Way.the-variants.{Arrived, Late}
+use Rattle.roll.specs.Roll.{groundStep, heldOf, stepOn}
+use Rattle.roll.specs.declared.Roll.{Roll}
+use Rattle.roll.specs.declared.Ending.{Ending}
+use Rattle.train.specs.Train.{timeUp, lastImpact, strike, rebounds, diesOut, fly, drop, groundFrom, ground, toGround, trainFrom, train}
+use Rattle.train.specs.declared.Struck.{Struck}
+use Rattle.train.specs.declared.Flown.{Flown}
+use Rattle.train.specs.declared.Flown.the-variants.{Hop, Ground}
+use Rattle.ground.specs.Tests.{physicsOk, ballOk, densityOk, vecAbout, landingOk, wholes, inputTest, refusalOf}
+use Rattle.ground.specs.Settle.{restBy, reportOf, conditionsOf, firstLog, runOf, settleOf}
+use Rattle.ground.specs.Keeps.{Each, PointOf, ContactOf, After, SampleOf, Keeps, KeepsTo, Any, Ok, OnWith, keeps-bind, k-pure, k-if, k-when, k-look, k-test, k-count, k-mark, k-truncate, k-point, k-contact, k-loop, to, to-bind, to-if, to-left}
+
+module _ (o : Oracle) (rc rp : ℕ) where
+  abbrev K : {A : Type 0} → ℕ → (A → Type 0) → M A → Type 0
+  K n Q m = Keeps o rc rp n Q m
+
+  -- ---- where a hop meets the ground: looks alone
+
+  f-clearance : (p : DVec3) → K 0 (Any o rc rp) (clearance p)
+  unfolding clearance
+  f-clearance p = keeps-bind o rc rp (k-look o rc rp 0 _ _) (λ s q. k-pure o rc rp 0 _ tt)
+
+  f-clearanceAt : (arc : Arc) (tau : Float) → K 0 (Any o rc rp) (clearanceAt arc tau)
+  unfolding clearanceAt
+  f-clearanceAt arc tau = f-clearance _
+
+  module _ (f : Float → M Float) (kf : (x : Float) → K 0 (Any o rc rp) (f x)) where
+    f-subStep : (len fEnd : Float) (i : ℕ) (b : Bracket) → K 0 (Any o rc rp) (subStep f len fEnd i b)
+    unfolding subStep
+    f-subStep len fEnd i b = k-if o rc rp (eqb i 8) (k-pure o rc rp 0 _ tt) (keeps-bind o rc rp (kf _) (λ x q. k-pure o rc rp 0 _ tt))
+
+    f-crossingFrom : (len fEnd : Float) (n i : ℕ) (b : Bracket) → K 0 (Any o rc rp) (crossingFrom f len fEnd n i b)
+    unfolding crossingFrom
+    f-crossingFrom len fEnd zero i b = k-pure o rc rp 0 _ tt
+    f-crossingFrom len fEnd (suc n) i b = keeps-bind o rc rp (f-subStep len fEnd i b) (λ x q. k-if o rc rp (le (x .«f_hi») (dec 0 1)) (k-pure o rc rp 0 _ tt) (f-crossingFrom len fEnd n (i + 1) x))
+
+    f-root : (n : ℕ) (s : Search) → K 0 (Any o rc rp) (rootFrom inM f n s)
+    unfolding rootFrom
+    f-root zero s = k-pure o rc rp 0 _ tt
+    f-root (suc n) s = keeps-bind o rc rp (kf _) (λ x q. next (f-root n) (narrowed s (inBracket s) x))
+      where
+        next : ((t : Search) → K 0 (Any o rc rp) (rootFrom inM f n t)) → (r : RootStep) → K 0 (Any o rc rp) (afterStep inM (rootFrom inM f n) r)
+        next g (Next t) = g t
+        next g (Found x) = k-pure o rc rp 0 x tt
+
+  f-endValue : (arc : Arc) (b : Bracket) → K 0 (Any o rc rp) (endValue arc b)
+  unfolding endValue
+  f-endValue arc b = k-if o rc rp (eq (b .hi) (arc .h)) (keeps-bind o rc rp (f-clearanceAt arc _) (λ x q. k-pure o rc rp 0 _ tt)) (k-pure o rc rp 0 _ tt)
+
+  f-crossingTime : (arc : Arc) (b : Bracket) → K 0 (Any o rc rp) (crossingTime arc b)
+  unfolding crossingTime findRoot
+  f-crossingTime arc b = keeps-bind o rc rp (f-endValue arc b) (λ x q. keeps-bind o rc rp (k-look o rc rp 0 _ _) (λ s r. f-root _ (f-clearanceAt arc) _ _))
+
+  f-hopArrival : (arc : Arc) (t end : Float) (spin : DVec3) → K 0 (Any o rc rp) (hopArrival arc t end spin)
+  unfolding hopArrival firstCrossing
+  f-hopArrival arc t end spin = keeps-bind o rc rp (f-clearanceAt arc _) (λ x q. keeps-bind o rc rp {b = 0} {R = Any o rc rp} (f-crossingFrom _ (f-clearanceAt arc) _ _ 8 1 _) (λ c. elim c [
+    | none ↦ λ r. k-pure o rc rp 0 none tt
+    | some b ↦ λ r. keeps-bind o rc rp (f-crossingTime arc b) (λ tau q. keeps-bind o rc rp (k-look o rc rp 0 _ _) (λ s w. k-pure o rc rp 0 _ tt))
+  ]))
+
+  -- ---- a hop
+
+  abbrev FlightOk : Flight → Type 0
+  FlightOk f = Ok o rc rp (f .state)
+
+  abbrev WayOk : Way → Type 0
+  WayOk (Arrived b) = Ok o rc rp b
+  WayOk (Late b) = Ok o rc rp b
+
+  f-hopNext : (f : Flight) (b : BallState) → Ok o rc rp b → (a : Option BallState) → K 0 (OnWith o rc rp FlightOk WayOk) (hopNext f b a)
+  unfolding hopNext
+  f-hopNext f b ok (some s) = keeps-bind o rc rp (k-test o rc rp 0 s) (λ x q. k-pure o rc rp 0 _ q)
+  f-hopNext f b ok none = keeps-bind o rc rp (k-when o rc rp _ (k-point o rc rp 0 b _ ok)) (λ x q. k-pure o rc rp 0 _ ok)
+
+  f-hopStep : (c : Conditions) (aero : AeroParams) (f : Flight) → FlightOk f → K 1 (OnWith o rc rp FlightOk WayOk) (hopStep c aero f)
+  unfolding hopStep
+  f-hopStep c aero f ok = keeps-bind o rc rp (k-count o rc rp) (λ x q. keeps-bind o rc rp (k-test o rc rp 0 _) (λ b kb. keeps-bind o rc rp (f-clearance _) (λ e r. keeps-bind o rc rp (f-hopArrival _ _ _ _) (λ a w. f-hopNext f b kb a))))
+
+  -- ---- the ground
+
+  abbrev RollOk : Roll → Type 0
+  RollOk g = Ok o rc rp (g .state)
+
+  abbrev EndOk : Ending → Type 0
+  EndOk e = Ok o rc rp (e .state)
+
+  f-timeUp : (s : BallState) (phase : Phase) → Ok o rc rp s → K 0 EndOk (timeUp s phase)
+  unfolding timeUp
+  f-timeUp s phase ok = keeps-bind o rc rp (k-point o rc rp 0 s phase ok) (λ x q. k-pure o rc rp 0 _ ok)
+
+  f-groundStep : (c : Conditions) (g : Roll) → RollOk g → K 1 (OnWith o rc rp RollOk EndOk) (groundStep c g)
+  unfolding groundStep
+  f-groundStep c g ok = keeps-bind o rc rp (k-count o rc rp) (λ x q. keeps-bind o rc rp (k-when o rc rp _ (k-point o rc rp 0 _ _ ok)) (λ y r. keeps-bind o rc rp (k-look o rc rp 0 _ _) (λ under s. keeps-bind o rc rp (k-test o rc rp 0 _) (λ b kb. k-if o rc rp (not (heldOf (stepOn c g) under)) (k-pure o rc rp 0 _ kb) (keeps-bind o rc rp (k-point o rc rp 0 b _ kb) (λ z t. k-pure o rc rp 0 _ kb))))))
+
+  -- ---- an impact
+
+  abbrev StruckOk : Struck → Type 0
+  StruckOk hit = SampleOf o (hit .«at») × Ok o rc rp (hit .out)
+
+  f-strike : (c : Conditions) (state : BallState) → K 0 StruckOk (strike c state)
+  unfolding strike
+  f-strike c state = keeps-bind o rc rp (k-look o rc rp 0 _ _) (λ s q. keeps-bind o rc rp (k-test o rc rp 0 _) (λ b kb. k-pure o rc rp 0 _ (q, kb)))
+
+  f-drop : (c : Conditions) (state : BallState) (hit : Struck) → Ok o rc rp state → StruckOk hit → K 0 (Ok o rc rp) (drop c state hit)
+  unfolding drop
+  f-drop c state hit ok h = keeps-bind o rc rp (k-test o rc rp 0 _) (λ b kb. keeps-bind o rc rp (k-contact o rc rp 0 state _ b ok (h .0) kb) (λ x q. k-pure o rc rp 0 b kb))
+
+  f-lastImpact : (state : BallState) (hit : Struck) → Ok o rc rp state → StruckOk hit → K 0 EndOk (lastImpact state hit)
+  unfolding lastImpact
+  f-lastImpact state hit ok h = keeps-bind o rc rp (k-contact o rc rp 0 state _ _ ok (h .0) (h .1)) (λ x q. keeps-bind o rc rp (k-point o rc rp 0 _ _ (h .1)) (λ y r. k-pure o rc rp 0 _ (h .1)))
+
+  module _ (limit : ℕ) (c : Conditions) (el : c .«step_limit» ≡ limit) where
+    abbrev KT : {A : Type 0} → (A → Type 0) → M A → Type 0
+    KT Q m = KeepsTo o rc rp limit Q m
+
+    f-hop : (start : BallState) → Ok o rc rp start → KT WayOk (hop c start)
+    unfolding hop hopFrom
+    f-hop start ok = to-left o rc rp limit c _ el (λ n. k-loop o rc rp _ _ _ (λ f q. k-pure o rc rp 0 _ q) (f-hopStep c _) n _ ok)
+
+    f-ground : (state : BallState) (s : GroundSample) → Ok o rc rp state → KT EndOk (ground c state s)
+    unfolding ground groundFrom
+    f-ground state s ok = to-left o rc rp limit c _ el (λ n. k-loop o rc rp _ _ _ (λ g q. f-timeUp _ _ q) (f-groundStep c) n _ ok)
+
+    abbrev FlownOk : Flown → Type 0
+    FlownOk (Hop w) = WayOk w
+    FlownOk Ground = Unit
+
+    f-fly : (hops : Bool) (state : BallState) (hit : Struck) → StruckOk hit → KT FlownOk (fly c hops state hit)
+    unfolding fly
+    f-fly hops state hit h = to-if o rc rp limit (not hops) (to o rc rp limit (k-pure o rc rp 0 _ tt))
+        (to-bind o rc rp limit (to o rc rp limit (k-mark o rc rp 0)) (λ m q. to-bind o rc rp limit (to o rc rp limit (k-point o rc rp 0 _ _ (h .1))) (λ x r. to-bind o rc rp limit {R = FlownOk} (f-hop _ (h .1)) (λ w. elim w [
+          | Late b ↦ λ k. to o rc rp limit (k-pure o rc rp 0 _ k)
+          | Arrived b ↦ λ k. to-if o rc rp limit (diesOut c state hit b) (to o rc rp limit (k-pure o rc rp 0 _ k)) (to-bind o rc rp limit (to o rc rp limit (k-truncate o rc rp 0 m)) (λ y t. to o rc rp limit (k-pure o rc rp 0 _ tt)))
+        ]))))
+
+    f-toGround : (state : BallState) (hit : Struck) → Ok o rc rp state → StruckOk hit → KT EndOk (toGround c state hit)
+    unfolding toGround
+    f-toGround state hit ok h = to-bind o rc rp limit (to o rc rp limit (f-drop c state hit ok h)) (λ b kb. f-ground b _ kb)
+
+    f-trainFrom : (n : ℕ) (state : BallState) → Ok o rc rp state → KT EndOk (trainFrom c n state)
+    unfolding trainFrom
+    f-trainFrom zero state ok = to-bind o rc rp limit (to o rc rp limit (f-strike c state)) (λ hit h. to-if o rc rp limit (not (rebounds c hit)) (f-toGround state hit ok h) (to o rc rp limit (f-lastImpact state hit ok h)))
+    f-trainFrom (suc n) state ok = to-bind o rc rp limit (to o rc rp limit (f-strike c state)) (λ hit h. to-bind o rc rp limit {R = EndOk} (f-fly _ state hit h) (λ w. elim w [
+      | Ground ↦ λ k. f-toGround state hit ok h
+      | Hop way ↦ elim way [
+        | Arrived b ↦ λ k. to-bind o rc rp limit {R = EndOk} (to o rc rp limit (k-contact o rc rp 0 state _ _ ok (h .0) (h .1))) (λ x q. f-trainFrom n b k)
+        | Late b ↦ λ k. to-bind o rc rp limit {R = EndOk} (to o rc rp limit (k-contact o rc rp 0 state _ _ ok (h .0) (h .1))) (λ x q. to o rc rp limit (f-timeUp b _ k))
+      ]
+    ]))
+
+    -- a run from a landing that passes test 22
+    pub train-sound : (landing : BallState) → Ok o rc rp landing → KT EndOk (train c landing)
+    unfolding train
+    train-sound landing ok = f-trainFrom _ landing ok
+
+-- ---- the landing: 7 is narrower than test 22
+
+split : (a b : Bool) → T (a && b) → T a × T b
+split true b t = (tt, t)
+split false b t = absurd t
+
+both : (a b : Bool) → T a → T b → T (a && b)
+both true b s t = t
+both false b s t = absurd s
+
+wider : (lo hi x : Float) → T (le (neg (dec 1000000 1)) lo) → T (le hi (dec 1000000 1)) → T (withinOf lo hi x) → T (coordOk x)
+unfolding coordOk
+wider lo hi x l h t = within-of _ _ x (le-through _ lo x l (within-lo lo hi x t)) (le-through x hi _ (within-hi lo hi x t) h)
+
+wider-vec : (r : Float) (v : DVec3) → T (le (neg (dec 1000000 1)) (neg r)) → T (le r (dec 1000000 1)) → T (vecAbout r v) → T (vecOk v)
+unfolding vecAbout vecOk
+wider-vec r v l h t =
+    let a = split (aboutOf r (v .x) && aboutOf r (v .y)) (aboutOf r (v .z)) t in
+    let b = split (aboutOf r (v .x)) (aboutOf r (v .y)) (a .0) in
+    both (coordOk (v .x)) (coordOk (v .y) && coordOk (v .z)) (wider _ _ _ l h (b .0)) (both (coordOk (v .y)) (coordOk (v .z)) (wider _ _ _ l h (b .1)) (wider _ _ _ l h (a .1)))
+
+landing-passes : (s : BallState) → T (landingOk s) → T (stateOk s)
+unfolding landingOk stateOk le neg round
+landing-passes s t =
+    let w = withinOf (dec 0 1) (dec 100000 1) (s .time) in
+    let p = vecAbout (dec 100000 1) (s .pos) in
+    let v = vecAbout (dec 200 1) (s .vel) in
+    let a = split (w && p && v) (vecAbout (dec 5000 1) (s .spin)) t in
+    let b = split (w && p) v (a .0) in
+    let d = split w p (b .0) in
+    both (coordOk (s .time)) (vecOk (s .pos) && (vecOk (s .vel) && vecOk (s .spin))) (wider (dec 0 1) (dec 100000 1) (s .time) tt tt (d .0))
+    (both (vecOk (s .pos)) (vecOk (s .vel) && vecOk (s .spin)) (wider-vec (dec 100000 1) (s .pos) tt tt (d .1))
+    (both (vecOk (s .vel)) (vecOk (s .spin)) (wider-vec (dec 200 1) (s .vel) tt tt (b .1)) (wider-vec (dec 5000 1) (s .spin) tt tt (a .1))))
+
+-- ---- what an accepted settle leaves
+
+passed : (b : Bool) → T b → b ≡ true
+passed true t = refl
+passed false t = absurd t
+
+-- a call that passes every test passes 7
+accepted-landing : (s : List ℕ) (p : GroundPhysics) (limit : ℕ) (ball : BallModel) (density : Float) (landing : BallState) (nc np : ℕ)
+    → refusalOf s p limit ball density landing nc np ≡ 0 → landingOk landing ≡ true
+unfolding refusalOf inputTest
+accepted-landing s p limit ball density landing nc np h = go (wholes nc np) (eqb (answerOf s) 0) (physicsOk p limit) (ballOk ball) (densityOk density) (landingOk landing) refl h
+  where
+    go : (w e a b c d : Bool) → eqb (answerOf s) 0 ≡ e
+        → (if not w then 8 else if not e then answerOf s else if not a then 4 else if not b then 5 else if not c then 6 else if not d then 7 else 0) ≡ 0 → d ≡ true
+    go true true true true true true i h = refl
+    go true true true true true false i h = absurd (omega (arith, h))
+    go true true true true false d i h = absurd (omega (arith, h))
+    go true true true false c d i h = absurd (omega (arith, h))
+    go true true false b c d i h = absurd (omega (arith, h))
+    go true false a b c d i h = absurd (let j : true ≡ false = rw h at i in let z : _≡_ {A = ℕ} 0 1 = cc in omega arith)
+    go false e a b c d i h = absurd (omega (arith, h))
+
+module _ (sheet : List ℕ) (p : GroundPhysics) (limit : ℕ) (ball : BallModel) (density : Float) (landing : BallState) (cs ps : List Float) where
+  pub record Leaves : Type 0 where
+    pub contacts : Records
+    pub points : Records
+    -- both lists are these records, in order, and +0 in all the rest
+    pub contacts-listed : settleOf sheet p limit ball density landing cs ps .contacts ≡ shown (length cs) contacts
+    pub points-listed : settleOf sheet p limit ball density landing cs ps .points ≡ shown (length ps) points
+    pub contacts-counted : settleOf sheet p limit ball density landing cs ps .settled .contacts ≡ length contacts
+    pub points-counted : settleOf sheet p limit ball density landing cs ps .settled .points ≡ length points
+    -- no more than the lists have room for
+    pub contacts-fit : length contacts ≤ length cs / 20
+    pub points-fit : length points ≤ length ps / 11
+    pub each-contact : Each (ContactOf (courseOf sheet)) contacts
+    pub each-point : Each PointOf points
+    pub steps : settleOf sheet p limit ball density landing cs ps .settled .steps ≤ limit
+    -- the final state passes test 22
+    pub rest : stateOk (settleOf sheet p limit ball density landing cs ps .settled .rest) ≡ true
+
+  abbrev o : Oracle
+  o = courseOf sheet
+
+  abbrev t : Tree (Ran Ending)
+  t = runOf p limit ball density landing (length cs) (length ps)
+
+  value-is : exec o noRect t .value ≡ run o t
+  value-is = ap (λ (d : Did (Ran Ending)). d .value) (exec-is o noRect t)
+
+  rest-ok : (x : Outcome Ending) (g : BallState) → After o (length cs / 20) (length ps / 11) (EndOk o (length cs / 20) (length ps / 11)) x → stateOk g ≡ true → stateOk (restBy x g) ≡ true
+  rest-ok (goes e) g h k = h
+  rest-ok (stops n) g h k = k
+
+  -- under the answers 0 and 20 to 23
+  pub settle-leaves : refusalOf sheet p limit ball density landing (length cs) (length ps) ≡ 0 → Leaves
+  unfolding settleOf reportOf runOf conditionsOf
+  settle-leaves h =
+      let ok : stateOk landing ≡ true = passed (stateOk landing) (landing-passes landing (rw (accepted-landing sheet p limit ball density landing (length cs) (length ps) h) tt)) in
+      let k = train-sound o (length cs / 20) (length ps / 11) limit (conditionsOf p limit ball density landing) refl landing ok .all (firstLog landing (length cs) (length ps))
+      (record { good = ok; contacts = tt; points = tt; few-contacts = zero-le; few-points = zero-le; room-contacts = refl; room-points = refl }) zero-le in
+      record {
+        contacts = run o t .log .contacts .records;
+        points = run o t .log .points .records;
+        contacts-listed = rw (h, value-is);
+        points-listed = rw (h, value-is);
+        contacts-counted = rw (h, value-is);
+        points-counted = rw (h, value-is);
+        contacts-fit = k .sound .few-contacts;
+        points-fit = k .sound .few-points;
+        each-contact = k .sound .contacts;
+        each-point = k .sound .points;
+        steps = rw (h, value-is) (k .steps);
+        rest = rw (h, value-is) (rest-ok (run o t .outcome) (run o t .log .good) (k .value) (k .sound .good));
+      }
+
+-- ---- every number of a pushed point is finite
+
+abbrev pub Finite : List Float → Type 0
+Finite [] = Unit
+Finite (x ∷ l) = T (finiteOf x) × Finite l
+
+coord-finite : (x : Float) → T (coordOk x) → T (finiteOf x)
+unfolding coordOk neg round
+coord-finite x t = within-finite (neg (dec 1000000 1)) (dec 1000000 1) x tt tt t
+
+vec-finite : (v : DVec3) → T (vecOk v) → T (finiteOf (v .x)) × T (finiteOf (v .y)) × T (finiteOf (v .z))
+unfolding vecOk
+vec-finite v t =
+    let a = split (coordOk (v .x)) (coordOk (v .y) && coordOk (v .z)) t in
+    let b = split (coordOk (v .y)) (coordOk (v .z)) (a .1) in
+    (coord-finite _ (a .0), coord-finite _ (b .0), coord-finite _ (b .1))
+
+phase-finite : (p : Phase) → T (finiteOf (phaseNumber p))
+unfolding round
+phase-finite InHop = tt
+phase-finite InSlide = tt
+phase-finite InRoll = tt
+
+pub point-finite : (r : List Float) → PointOf r → Finite r
+unfolding stateOk
+point-finite r h =
+    let s = h .state in
+    let a = split (coordOk (s .time)) (vecOk (s .pos) && (vecOk (s .vel) && vecOk (s .spin))) (rw (h .ok) tt) in
+    let b = split (vecOk (s .pos)) (vecOk (s .vel) && vecOk (s .spin)) (a .1) in
+    let d = split (vecOk (s .vel)) (vecOk (s .spin)) (b .1) in
+    let x = vec-finite (s .pos) (b .0) in
+    let v = vec-finite (s .vel) (d .0) in
+    let w = vec-finite (s .spin) (d .1) in
+    rw (h .is) (coord-finite _ (a .0), (x .0, (x .1, (x .2, (v .0, (v .1, (v .2, (w .0, (w .1, (w .2, (phase-finite (h .phase), tt)))))))))))
