@@ -23,7 +23,7 @@ use Rattle.aero.specs.declared.BallModel.{BallModel}
 use Rattle.look.specs.Rect.{noRect}
 use Rattle.look.specs.Agree.{exec-is}
 use Rattle.look.specs.Tree.{Tree, Oracle, Did, exec, run}
-use Rattle.course.specs.Sheet.{answerOf, courseOf}
+use Rattle.course.specs.Sheet.{Accepted, answerOf, courseOf}
 use Rattle.records.specs.Records.{Records, shown}
 use Rattle.tally.specs.declared.GroundPhysics.{GroundPhysics}
 use Rattle.search.specs.Search.{rootFrom, findRoot, afterStep, narrowed, inBracket}
@@ -48,6 +48,7 @@ use Rattle.train.specs.declared.Flown.{Flown}
 use Rattle.train.specs.declared.Flown.the-variants.{Hop, Ground}
 use Rattle.ground.specs.Tests.{physicsOk, ballOk, densityOk, vecAbout, landingOk, wholes, inputTest, refusalOf}
 use Rattle.ground.specs.Settle.{restBy, reportOf, conditionsOf, firstLog, runOf, settleOf}
+use Rattle.ground.specs.Samples.{Sampled, sampled, number-finite}
 use Rattle.ground.specs.Keeps.{Each, PointOf, ContactOf, After, SampleOf, Keeps, KeepsTo, Any, Ok, OnWith, keeps-bind, k-pure, k-if, k-when, k-look, k-test, k-count, k-mark, k-truncate, k-point, k-contact, k-loop, to, to-bind, to-if, to-left}
 
 module _ (o : Oracle) (rc rp : ℕ) where
@@ -325,14 +326,40 @@ phase-finite InHop = tt
 phase-finite InSlide = tt
 phase-finite InRoll = tt
 
-pub point-finite : (r : List Float) → PointOf r → Finite r
+-- the ten numbers of a state that passed test 22
+pub record StateFinite (s : BallState) : Type 0 where
+  pub time : T (finiteOf (s .time))
+  pub pos : T (finiteOf (s .pos .x)) × T (finiteOf (s .pos .y)) × T (finiteOf (s .pos .z))
+  pub vel : T (finiteOf (s .vel .x)) × T (finiteOf (s .vel .y)) × T (finiteOf (s .vel .z))
+  pub spin : T (finiteOf (s .spin .x)) × T (finiteOf (s .spin .y)) × T (finiteOf (s .spin .z))
+
+pub state-finite : (s : BallState) → stateOk s ≡ true → StateFinite s
 unfolding stateOk
-point-finite r h =
-    let s = h .state in
-    let a = split (coordOk (s .time)) (vecOk (s .pos) && (vecOk (s .vel) && vecOk (s .spin))) (rw (h .ok) tt) in
+state-finite s h =
+    let a = split (coordOk (s .time)) (vecOk (s .pos) && (vecOk (s .vel) && vecOk (s .spin))) (rw h tt) in
     let b = split (vecOk (s .pos)) (vecOk (s .vel) && vecOk (s .spin)) (a .1) in
     let d = split (vecOk (s .vel)) (vecOk (s .spin)) (b .1) in
-    let x = vec-finite (s .pos) (b .0) in
-    let v = vec-finite (s .vel) (d .0) in
-    let w = vec-finite (s .spin) (d .1) in
-    rw (h .is) (coord-finite _ (a .0), (x .0, (x .1, (x .2, (v .0, (v .1, (v .2, (w .0, (w .1, (w .2, (phase-finite (h .phase), tt)))))))))))
+    record { time = coord-finite _ (a .0); pos = vec-finite (s .pos) (b .0); vel = vec-finite (s .vel) (d .0); spin = vec-finite (s .spin) (d .1) }
+
+pub point-finite : (r : List Float) → PointOf r → Finite r
+point-finite r h =
+    let s = state-finite (h .state) (h .ok) in
+    let x = s .pos in
+    let v = s .vel in
+    let w = s .spin in
+    rw (h .is) (s .time, (x .0, (x .1, (x .2, (v .0, (v .1, (v .2, (w .0, (w .1, (w .2, (phase-finite (h .phase), tt)))))))))))
+
+-- every number of a pushed contact is finite
+pub contact-finite : (s : List ℕ) → Accepted s → (r : List Float) → ContactOf (courseOf s) r → Finite r
+contact-finite s ok r h =
+    let a = state-finite (h .arrival) (h .came) in
+    let b = state-finite (h .departure) (h .left) in
+    let g : Sampled (h .sample) = rw (h .seen .is) (sampled s (h .seen .x) (h .seen .z) ok) in
+    let x = a .pos in
+    let n = g .normal in
+    let v = a .vel in
+    let u = b .vel in
+    let w = a .spin in
+    let q = b .spin in
+    rw (h .is)
+    (a .time, (x .0, (x .1, (x .2, (n .0, (n .1, (n .2, (number-finite (h .sample .number) (g .number), (v .0, (v .1, (v .2, (u .0, (u .1, (u .2, (w .0, (w .1, (w .2, (q .0, (q .1, (q .2, tt))))))))))))))))))))

@@ -4,4 +4,5 @@ pub mod Contracts
 pub mod Demand
 pub mod Step
 pub mod Keeps
+pub mod Samples
 pub mod Finite

@@ -1,0 +1,37 @@
+-- Every run with answer 0 may be entered on a board (01, "Lists and the rest of the shop"): its final spot never meets 10. Assumes nothing.
+use Prim.Native.Nat.{ℕ}
+use mathlib.Core.Path.{_≡_, sym, subst}
+use mathlib.Core.Bool.{Bool, true, false, _&&_}
+use mathlib.Core.List.{List}
+use lib.Dec.{T}
+use lib.Ieee.{Float}
+use lib.Ieee.Fits.{and-l, and-r}
+use lib.ListN.{length}
+use Rattle.number.specs.Ops.{dec}
+use Rattle.number.specs.Number.{aboutOf}
+use Rattle.surface.specs.declared.BallState.{BallState}
+use Rattle.aero.specs.declared.BallModel.{BallModel}
+use Rattle.look.specs.Rect.{coordOk}
+use Rattle.tally.specs.Language.{vecOk, stateOk}
+use Rattle.tally.specs.declared.GroundPhysics.{GroundPhysics}
+use Rattle.ground.specs.Tests.{refusalOf}
+use Rattle.ground.specs.Settle.{settleOf}
+use Rattle.ground.specs.Finite.{settle-leaves}
+use Rattle.board.specs.declared.Board.{Board}
+use Rattle.board.specs.Board.{enterOf}
+use Rattle.board.specs.Listing.{never-10}
+
+-- a state that passes test 22 has a spot of magnitude at most 1,000,000
+spot-about : (s : BallState) → T (stateOk s) → T (aboutOf (dec 1000000 1) (s .pos .x)) × T (aboutOf (dec 1000000 1) (s .pos .z))
+unfolding stateOk vecOk coordOk
+spot-about s h =
+    let p = and-l (vecOk (s .pos)) (vecOk (s .vel) && vecOk (s .spin)) (and-r (coordOk (s .time)) (vecOk (s .pos) && (vecOk (s .vel) && vecOk (s .spin))) h) in
+    (and-l (coordOk (s .pos .x)) (coordOk (s .pos .y) && coordOk (s .pos .z)) p, and-r (coordOk (s .pos .y)) (coordOk (s .pos .z)) (and-r (coordOk (s .pos .x)) (coordOk (s .pos .y) && coordOk (s .pos .z)) p))
+
+-- whatever the board and the shot number, after any accepted call, a finished one among them
+pub may-be-entered : (sheet : List ℕ) (p : GroundPhysics) (limit : ℕ) (ball : BallModel) (density : Float) (landing : BallState) (cs ps : List Float)
+    → refusalOf sheet p limit ball density landing (length cs) (length ps) ≡ 0 → (b : Board) (n : ℕ)
+    → enterOf b n (settleOf sheet p limit ball density landing cs ps .settled .rest .pos .x) (settleOf sheet p limit ball density landing cs ps .settled .rest .pos .z) .answer ≡ 10 → ⊥
+may-be-entered sheet p limit ball density landing cs ps h b n =
+    let w = spot-about (settleOf sheet p limit ball density landing cs ps .settled .rest) (subst T (sym (settle-leaves sheet p limit ball density landing cs ps h .rest)) tt) in
+    never-10 b (record { shot = n; x = settleOf sheet p limit ball density landing cs ps .settled .rest .pos .x; z = settleOf sheet p limit ball density landing cs ps .settled .rest .pos .z }) (w .0) (w .1)
