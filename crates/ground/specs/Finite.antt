@@ -47,7 +47,7 @@ use Rattle.train.specs.declared.Struck.{Struck}
 use Rattle.train.specs.declared.Flown.{Flown}
 use Rattle.train.specs.declared.Flown.the-variants.{Hop, Ground}
 use Rattle.ground.specs.Tests.{physicsOk, ballOk, densityOk, vecAbout, landingOk, wholes, inputTest, refusalOf}
-use Rattle.ground.specs.Settle.{restBy, reportOf, conditionsOf, firstLog, runOf, settleOf}
+use Rattle.ground.specs.Settle.{answerBy, restBy, reportOf, conditionsOf, firstLog, runOf, settleOf}
 use Rattle.ground.specs.Samples.{Sampled, sampled, number-finite}
 use Rattle.ground.specs.Keeps.{Each, PointOf, ContactOf, After, SampleOf, Keeps, KeepsTo, Any, Ok, OnWith, keeps-bind, k-pure, k-if, k-when, k-look, k-test, k-count, k-mark, k-truncate, k-point, k-contact, k-loop, to, to-bind, to-if, to-left}
 
@@ -59,7 +59,7 @@ module _ (o : Oracle) (rc rp : ℕ) where
 
   f-clearance : (p : DVec3) → K 0 (Any o rc rp) (clearance p)
   unfolding clearance
-  f-clearance p = keeps-bind o rc rp (k-look o rc rp 0 _ _) (λ s q. k-pure o rc rp 0 _ tt)
+  f-clearance p = keeps-bind o rc rp (k-look o rc rp _ _) (λ s q. k-pure o rc rp _ tt)
 
   f-clearanceAt : (arc : Arc) (tau : Float) → K 0 (Any o rc rp) (clearanceAt arc tau)
   unfolding clearanceAt
@@ -68,35 +68,35 @@ module _ (o : Oracle) (rc rp : ℕ) where
   module _ (f : Float → M Float) (kf : (x : Float) → K 0 (Any o rc rp) (f x)) where
     f-subStep : (len fEnd : Float) (i : ℕ) (b : Bracket) → K 0 (Any o rc rp) (subStep f len fEnd i b)
     unfolding subStep
-    f-subStep len fEnd i b = k-if o rc rp (eqb i 8) (k-pure o rc rp 0 _ tt) (keeps-bind o rc rp (kf _) (λ x q. k-pure o rc rp 0 _ tt))
+    f-subStep len fEnd i b = k-if o rc rp (eqb i 8) (k-pure o rc rp _ tt) (keeps-bind o rc rp (kf _) (λ x q. k-pure o rc rp _ tt))
 
     f-crossingFrom : (len fEnd : Float) (n i : ℕ) (b : Bracket) → K 0 (Any o rc rp) (crossingFrom f len fEnd n i b)
     unfolding crossingFrom
-    f-crossingFrom len fEnd zero i b = k-pure o rc rp 0 _ tt
-    f-crossingFrom len fEnd (suc n) i b = keeps-bind o rc rp (f-subStep len fEnd i b) (λ x q. k-if o rc rp (le (x .«f_hi») (dec 0 1)) (k-pure o rc rp 0 _ tt) (f-crossingFrom len fEnd n (i + 1) x))
+    f-crossingFrom len fEnd zero i b = k-pure o rc rp _ tt
+    f-crossingFrom len fEnd (suc n) i b = keeps-bind o rc rp (f-subStep len fEnd i b) (λ x q. k-if o rc rp (le (x .«f_hi») (dec 0 1)) (k-pure o rc rp _ tt) (f-crossingFrom len fEnd n (i + 1) x))
 
     f-root : (n : ℕ) (s : Search) → K 0 (Any o rc rp) (rootFrom inM f n s)
     unfolding rootFrom
-    f-root zero s = k-pure o rc rp 0 _ tt
+    f-root zero s = k-pure o rc rp _ tt
     f-root (suc n) s = keeps-bind o rc rp (kf _) (λ x q. next (f-root n) (narrowed s (inBracket s) x))
       where
         next : ((t : Search) → K 0 (Any o rc rp) (rootFrom inM f n t)) → (r : RootStep) → K 0 (Any o rc rp) (afterStep inM (rootFrom inM f n) r)
         next g (Next t) = g t
-        next g (Found x) = k-pure o rc rp 0 x tt
+        next g (Found x) = k-pure o rc rp x tt
 
   f-endValue : (arc : Arc) (b : Bracket) → K 0 (Any o rc rp) (endValue arc b)
   unfolding endValue
-  f-endValue arc b = k-if o rc rp (eq (b .hi) (arc .h)) (keeps-bind o rc rp (f-clearanceAt arc _) (λ x q. k-pure o rc rp 0 _ tt)) (k-pure o rc rp 0 _ tt)
+  f-endValue arc b = k-if o rc rp (eq (b .hi) (arc .h)) (keeps-bind o rc rp (f-clearanceAt arc _) (λ x q. k-pure o rc rp _ tt)) (k-pure o rc rp _ tt)
 
   f-crossingTime : (arc : Arc) (b : Bracket) → K 0 (Any o rc rp) (crossingTime arc b)
   unfolding crossingTime findRoot
-  f-crossingTime arc b = keeps-bind o rc rp (f-endValue arc b) (λ x q. keeps-bind o rc rp (k-look o rc rp 0 _ _) (λ s r. f-root _ (f-clearanceAt arc) _ _))
+  f-crossingTime arc b = keeps-bind o rc rp (f-endValue arc b) (λ x q. keeps-bind o rc rp (k-look o rc rp _ _) (λ s r. f-root _ (f-clearanceAt arc) _ _))
 
   f-hopArrival : (arc : Arc) (t end : Float) (spin : DVec3) → K 0 (Any o rc rp) (hopArrival arc t end spin)
   unfolding hopArrival firstCrossing
-  f-hopArrival arc t end spin = keeps-bind o rc rp (f-clearanceAt arc _) (λ x q. keeps-bind o rc rp {b = 0} {R = Any o rc rp} (f-crossingFrom _ (f-clearanceAt arc) _ _ 8 1 _) (λ c. elim c [
-    | none ↦ λ r. k-pure o rc rp 0 none tt
-    | some b ↦ λ r. keeps-bind o rc rp (f-crossingTime arc b) (λ tau q. keeps-bind o rc rp (k-look o rc rp 0 _ _) (λ s w. k-pure o rc rp 0 _ tt))
+  f-hopArrival arc t end spin = keeps-bind o rc rp (f-clearanceAt arc _) (λ x q. keeps-bind o rc rp {R = Any o rc rp} (f-crossingFrom _ (f-clearanceAt arc) _ _ 8 1 _) (λ c. elim c [
+    | none ↦ λ r. k-pure o rc rp none tt
+    | some b ↦ λ r. keeps-bind o rc rp (f-crossingTime arc b) (λ tau q. keeps-bind o rc rp (k-look o rc rp _ _) (λ s w. k-pure o rc rp _ tt))
   ]))
 
   -- ---- a hop
@@ -110,12 +110,12 @@ module _ (o : Oracle) (rc rp : ℕ) where
 
   f-hopNext : (f : Flight) (b : BallState) → Ok o rc rp b → (a : Option BallState) → K 0 (OnWith o rc rp FlightOk WayOk) (hopNext f b a)
   unfolding hopNext
-  f-hopNext f b ok (some s) = keeps-bind o rc rp (k-test o rc rp 0 s) (λ x q. k-pure o rc rp 0 _ q)
-  f-hopNext f b ok none = keeps-bind o rc rp (k-when o rc rp _ (k-point o rc rp 0 b _ ok)) (λ x q. k-pure o rc rp 0 _ ok)
+  f-hopNext f b ok (some s) = keeps-bind o rc rp (k-test o rc rp s) (λ x q. k-pure o rc rp _ q)
+  f-hopNext f b ok none = keeps-bind o rc rp (k-when o rc rp _ (k-point o rc rp b _ ok)) (λ x q. k-pure o rc rp _ ok)
 
   f-hopStep : (c : Conditions) (aero : AeroParams) (f : Flight) → FlightOk f → K 1 (OnWith o rc rp FlightOk WayOk) (hopStep c aero f)
   unfolding hopStep
-  f-hopStep c aero f ok = keeps-bind o rc rp (k-count o rc rp) (λ x q. keeps-bind o rc rp (k-test o rc rp 0 _) (λ b kb. keeps-bind o rc rp (f-clearance _) (λ e r. keeps-bind o rc rp (f-hopArrival _ _ _ _) (λ a w. f-hopNext f b kb a))))
+  f-hopStep c aero f ok = keeps-bind o rc rp (k-count o rc rp) (λ x q. keeps-bind o rc rp (k-test o rc rp _) (λ b kb. keeps-bind o rc rp (f-clearance _) (λ e r. keeps-bind o rc rp (f-hopArrival _ _ _ _) (λ a w. f-hopNext f b kb a))))
 
   -- ---- the ground
 
@@ -127,11 +127,11 @@ module _ (o : Oracle) (rc rp : ℕ) where
 
   f-timeUp : (s : BallState) (phase : Phase) → Ok o rc rp s → K 0 EndOk (timeUp s phase)
   unfolding timeUp
-  f-timeUp s phase ok = keeps-bind o rc rp (k-point o rc rp 0 s phase ok) (λ x q. k-pure o rc rp 0 _ ok)
+  f-timeUp s phase ok = keeps-bind o rc rp (k-point o rc rp s phase ok) (λ x q. k-pure o rc rp _ ok)
 
   f-groundStep : (c : Conditions) (g : Roll) → RollOk g → K 1 (OnWith o rc rp RollOk EndOk) (groundStep c g)
   unfolding groundStep
-  f-groundStep c g ok = keeps-bind o rc rp (k-count o rc rp) (λ x q. keeps-bind o rc rp (k-when o rc rp _ (k-point o rc rp 0 _ _ ok)) (λ y r. keeps-bind o rc rp (k-look o rc rp 0 _ _) (λ under s. keeps-bind o rc rp (k-test o rc rp 0 _) (λ b kb. k-if o rc rp (not (heldOf (stepOn c g) under)) (k-pure o rc rp 0 _ kb) (keeps-bind o rc rp (k-point o rc rp 0 b _ kb) (λ z t. k-pure o rc rp 0 _ kb))))))
+  f-groundStep c g ok = keeps-bind o rc rp (k-count o rc rp) (λ x q. keeps-bind o rc rp (k-when o rc rp _ (k-point o rc rp _ _ ok)) (λ y r. keeps-bind o rc rp (k-look o rc rp _ _) (λ under s. keeps-bind o rc rp (k-test o rc rp _) (λ b kb. k-if o rc rp (not (heldOf (stepOn c g) under)) (k-pure o rc rp _ kb) (keeps-bind o rc rp (k-point o rc rp b _ kb) (λ z t. k-pure o rc rp _ kb))))))
 
   -- ---- an impact
 
@@ -140,15 +140,15 @@ module _ (o : Oracle) (rc rp : ℕ) where
 
   f-strike : (c : Conditions) (state : BallState) → K 0 StruckOk (strike c state)
   unfolding strike
-  f-strike c state = keeps-bind o rc rp (k-look o rc rp 0 _ _) (λ s q. keeps-bind o rc rp (k-test o rc rp 0 _) (λ b kb. k-pure o rc rp 0 _ (q, kb)))
+  f-strike c state = keeps-bind o rc rp (k-look o rc rp _ _) (λ s q. keeps-bind o rc rp (k-test o rc rp _) (λ b kb. k-pure o rc rp _ (q, kb)))
 
   f-drop : (c : Conditions) (state : BallState) (hit : Struck) → Ok o rc rp state → StruckOk hit → K 0 (Ok o rc rp) (drop c state hit)
   unfolding drop
-  f-drop c state hit ok h = keeps-bind o rc rp (k-test o rc rp 0 _) (λ b kb. keeps-bind o rc rp (k-contact o rc rp 0 state _ b ok (h .0) kb) (λ x q. k-pure o rc rp 0 b kb))
+  f-drop c state hit ok h = keeps-bind o rc rp (k-test o rc rp _) (λ b kb. keeps-bind o rc rp (k-contact o rc rp state _ b ok (h .0) kb) (λ x q. k-pure o rc rp b kb))
 
   f-lastImpact : (state : BallState) (hit : Struck) → Ok o rc rp state → StruckOk hit → K 0 EndOk (lastImpact state hit)
   unfolding lastImpact
-  f-lastImpact state hit ok h = keeps-bind o rc rp (k-contact o rc rp 0 state _ _ ok (h .0) (h .1)) (λ x q. keeps-bind o rc rp (k-point o rc rp 0 _ _ (h .1)) (λ y r. k-pure o rc rp 0 _ (h .1)))
+  f-lastImpact state hit ok h = keeps-bind o rc rp (k-contact o rc rp state _ _ ok (h .0) (h .1)) (λ x q. keeps-bind o rc rp (k-point o rc rp _ _ (h .1)) (λ y r. k-pure o rc rp _ (h .1)))
 
   module _ (limit : ℕ) (c : Conditions) (el : c .«step_limit» ≡ limit) where
     abbrev KT : {A : Type 0} → (A → Type 0) → M A → Type 0
@@ -156,7 +156,7 @@ module _ (o : Oracle) (rc rp : ℕ) where
 
     f-hop : (start : BallState) → Ok o rc rp start → KT WayOk (hop c start)
     unfolding hop hopFrom
-    f-hop start ok = to-left o rc rp limit c _ el (λ n. k-loop o rc rp _ _ _ (λ f q. k-pure o rc rp 0 _ q) (f-hopStep c _) n _ ok)
+    f-hop start ok = to-left o rc rp limit c _ el (λ n. k-loop o rc rp _ _ _ (λ f q. k-pure o rc rp _ q) (f-hopStep c _) n _ ok)
 
     f-ground : (state : BallState) (s : GroundSample) → Ok o rc rp state → KT EndOk (ground c state s)
     unfolding ground groundFrom
@@ -168,10 +168,10 @@ module _ (o : Oracle) (rc rp : ℕ) where
 
     f-fly : (hops : Bool) (state : BallState) (hit : Struck) → StruckOk hit → KT FlownOk (fly c hops state hit)
     unfolding fly
-    f-fly hops state hit h = to-if o rc rp limit (not hops) (to o rc rp limit (k-pure o rc rp 0 _ tt))
-        (to-bind o rc rp limit (to o rc rp limit (k-mark o rc rp 0)) (λ m q. to-bind o rc rp limit (to o rc rp limit (k-point o rc rp 0 _ _ (h .1))) (λ x r. to-bind o rc rp limit {R = FlownOk} (f-hop _ (h .1)) (λ w. elim w [
-          | Late b ↦ λ k. to o rc rp limit (k-pure o rc rp 0 _ k)
-          | Arrived b ↦ λ k. to-if o rc rp limit (diesOut c state hit b) (to o rc rp limit (k-pure o rc rp 0 _ k)) (to-bind o rc rp limit (to o rc rp limit (k-truncate o rc rp 0 m)) (λ y t. to o rc rp limit (k-pure o rc rp 0 _ tt)))
+    f-fly hops state hit h = to-if o rc rp limit (not hops) (to o rc rp limit (k-pure o rc rp _ tt))
+        (to-bind o rc rp limit (to o rc rp limit (k-mark o rc rp)) (λ m q. to-bind o rc rp limit (to o rc rp limit (k-point o rc rp _ _ (h .1))) (λ x r. to-bind o rc rp limit {R = FlownOk} (f-hop _ (h .1)) (λ w. elim w [
+          | Late b ↦ λ k. to o rc rp limit (k-pure o rc rp _ k)
+          | Arrived b ↦ λ k. to-if o rc rp limit (diesOut c state hit b) (to o rc rp limit (k-pure o rc rp _ k)) (to-bind o rc rp limit (to o rc rp limit (k-truncate o rc rp m)) (λ y t. to o rc rp limit (k-pure o rc rp _ tt)))
         ]))))
 
     f-toGround : (state : BallState) (hit : Struck) → Ok o rc rp state → StruckOk hit → KT EndOk (toGround c state hit)
@@ -184,8 +184,8 @@ module _ (o : Oracle) (rc rp : ℕ) where
     f-trainFrom (suc n) state ok = to-bind o rc rp limit (to o rc rp limit (f-strike c state)) (λ hit h. to-bind o rc rp limit {R = EndOk} (f-fly _ state hit h) (λ w. elim w [
       | Ground ↦ λ k. f-toGround state hit ok h
       | Hop way ↦ elim way [
-        | Arrived b ↦ λ k. to-bind o rc rp limit {R = EndOk} (to o rc rp limit (k-contact o rc rp 0 state _ _ ok (h .0) (h .1))) (λ x q. f-trainFrom n b k)
-        | Late b ↦ λ k. to-bind o rc rp limit {R = EndOk} (to o rc rp limit (k-contact o rc rp 0 state _ _ ok (h .0) (h .1))) (λ x q. to o rc rp limit (f-timeUp b _ k))
+        | Arrived b ↦ λ k. to-bind o rc rp limit {R = EndOk} (to o rc rp limit (k-contact o rc rp state _ _ ok (h .0) (h .1))) (λ x q. f-trainFrom n b k)
+        | Late b ↦ λ k. to-bind o rc rp limit {R = EndOk} (to o rc rp limit (k-contact o rc rp state _ _ ok (h .0) (h .1))) (λ x q. to o rc rp limit (f-timeUp b _ k))
       ]
     ]))
 
@@ -265,6 +265,8 @@ module _ (sheet : List ℕ) (p : GroundPhysics) (limit : ℕ) (ball : BallModel)
     pub each-contact : Each (ContactOf (courseOf sheet)) contacts
     pub each-point : Each PointOf points
     pub steps : settleOf sheet p limit ball density landing cs ps .settled .steps ≤ limit
+    -- 23 comes with step_limit steps made
+    pub limit-reached : settleOf sheet p limit ball density landing cs ps .settled .answer ≡ 23 → settleOf sheet p limit ball density landing cs ps .settled .steps ≡ limit
     -- the final state passes test 22
     pub rest : stateOk (settleOf sheet p limit ball density landing cs ps .settled .rest) ≡ true
 
@@ -277,9 +279,13 @@ module _ (sheet : List ℕ) (p : GroundPhysics) (limit : ℕ) (ball : BallModel)
   value-is : exec o noRect t .value ≡ run o t
   value-is = ap (λ (d : Did (Ran Ending)). d .value) (exec-is o noRect t)
 
-  rest-ok : (x : Outcome Ending) (g : BallState) → After o (length cs / 20) (length ps / 11) (EndOk o (length cs / 20) (length ps / 11)) x → stateOk g ≡ true → stateOk (restBy x g) ≡ true
-  rest-ok (goes e) g h k = h
-  rest-ok (stops n) g h k = k
+  rest-ok : (x : Outcome Ending) (g : BallState) (R : ℕ → Type 0) → After o (length cs / 20) (length ps / 11) (EndOk o (length cs / 20) (length ps / 11)) R x → stateOk g ≡ true → stateOk (restBy x g) ≡ true
+  rest-ok (goes e) g R h k = h
+  rest-ok (stops n) g R h k = k
+
+  all-made : (x : Outcome Ending) (n : ℕ) → After o (length cs / 20) (length ps / 11) (EndOk o (length cs / 20) (length ps / 11)) (λ j. j ≡ 23 → n ≡ limit) x → answerBy x ≡ 23 → n ≡ limit
+  all-made (goes e) n h k = absurd (omega (arith, k))
+  all-made (stops j) n h k = h k
 
   -- under the answers 0 and 20 to 23
   pub settle-leaves : refusalOf sheet p limit ball density landing (length cs) (length ps) ≡ 0 → Leaves
@@ -300,7 +306,8 @@ module _ (sheet : List ℕ) (p : GroundPhysics) (limit : ℕ) (ball : BallModel)
         each-contact = k .sound .contacts;
         each-point = k .sound .points;
         steps = rw (h, value-is) (k .steps);
-        rest = rw (h, value-is) (rest-ok (run o t .outcome) (run o t .log .good) (k .value) (k .sound .good));
+        limit-reached = rw (h, value-is) (all-made (run o t .outcome) (run o t .log .steps) (k .value));
+        rest = rw (h, value-is) (rest-ok (run o t .outcome) (run o t .log .good) _ (k .value) (k .sound .good));
       }
 
 -- ---- every number of a pushed point is finite
