@@ -102,10 +102,23 @@ def program(name, libs=None, out=None):
     rustc(args)
 
 
+def fuzz(gen, libs):
+    """One input from standard input through the library and the reference, with the coverage that afl-fuzz reads."""
+    coverage = ["-C", "passes=sancov-module", "-C", "llvm-args=-sanitizer-coverage-level=3",
+                "-C", "llvm-args=-sanitizer-coverage-trace-pc-guard"]
+    out = TARGET / "covered"
+    out.mkdir(exist_ok=True)
+    reference = out / "libdimple_ref.rlib"
+    rustc(["--crate-type", "rlib", "--crate-name", "dimple_ref", *coverage, "src/reference.rs", "-o", reference], gen)
+    rustc([*coverage, "--extern", f"dimple_ref={reference}", "-L", f"native={libs}", "-l", "static=capi",
+           "-C", "link-arg=/usr/lib/afl/afl-compiler-rt.o", "src/fuzz.rs", "-o", TARGET / "fuzz"])
+
+
 def main():
     p = argparse.ArgumentParser()
     p.add_argument("--src")
     p.add_argument("--libs", help="folder with libcapi.a and libprobe.a")
+    p.add_argument("--fuzz", action="store_true", help="also target/fuzz, for afl-fuzz of Debian's afl++; needs --libs")
     p.add_argument("--plants", nargs="*", metavar="NAME", help="all planted differences, or those named")
     a = p.parse_args()
     src = find_sources(a.src)
@@ -119,6 +132,8 @@ def main():
         mock(gen, libs)
     program("compare", libs)
     program("make_replay")
+    if a.fuzz:
+        fuzz(gen, libs)
     if a.plants is not None:
         missed = []
         # std's own functions as the library: the leaves must tell each apart
