@@ -499,7 +499,24 @@ fn number_mode(f: &Number, seed: u64, count: u64) -> (u64, f64, f64) {
     (done, lib, rust)
 }
 
-fn struct_mode(leaf: usize, seed: u64, count: u64, random_bits: bool) -> (u64, f64, f64) {
+/// Where a leaf's inputs come from. `NoExp`: the working range without a call of exp, whose table leaf is slow.
+#[derive(Clone, Copy, PartialEq)]
+enum Kind {
+    Working,
+    NoExp,
+    AnyBits,
+}
+
+/// The field that decides whether exp is called, and its value without it: the roll law, or the air's density.
+fn without_exp(name: &str) -> Option<(usize, f64)> {
+    match name {
+        "contact_step" => Some((18, 1.0)),
+        "flight_step" => Some((15, 0.0)),
+        _ => None,
+    }
+}
+
+fn struct_mode(leaf: usize, seed: u64, count: u64, kind: Kind) -> (u64, f64, f64) {
     take_hits();
     let (name, i_len, o_len, reference) = LEAVES[leaf];
     let door = DOORS.iter().find(|d| d.0 == name).expect("a door").1;
@@ -511,7 +528,7 @@ fn struct_mode(leaf: usize, seed: u64, count: u64, random_bits: bool) -> (u64, f
     let mut b = vec![0.0; BLOCK * o_len];
     while done < count {
         for i in inputs.chunks_exact_mut(i_len) {
-            if random_bits {
+            if kind == Kind::AnyBits {
                 // whole random patterns, or a working input with some fields replaced
                 if r.chance(2) {
                     i.iter_mut().for_each(|x| *x = bits(&mut r));
@@ -524,6 +541,9 @@ fn struct_mode(leaf: usize, seed: u64, count: u64, random_bits: bool) -> (u64, f
                 }
             } else {
                 fill(name, &mut r, i);
+                if let (Kind::NoExp, Some((k, value))) = (kind, without_exp(name)) {
+                    i[k] = value;
+                }
             }
         }
         a.fill(-7.0);
@@ -590,9 +610,12 @@ pub fn run(seed: u64, share: u64, n: u64, only: &str) {
         if !(only.starts_with("--") || only.is_empty() || only == name) {
             continue;
         }
-        for (kind, millions, random) in [("working", 10, false), ("any bits", 1, true)] {
-            let count = millions * 10_000 * share / n;
-            report(name, kind, threads(n, |t| struct_mode(leaf, seed.wrapping_mul(78) + t, count, random)));
+        for (text, millions, kind) in [("working", 10, Kind::Working), ("no exp", 1, Kind::NoExp), ("any bits", 1, Kind::AnyBits)]
+        {
+            if kind != Kind::NoExp || without_exp(name).is_some() {
+                let count = millions * 10_000 * share / n;
+                report(name, text, threads(n, |t| struct_mode(leaf, seed.wrapping_mul(78) + t, count, kind)));
+            }
         }
     }
     let names: Vec<&str> = HIT_NAMES.iter().zip(&REACHED).filter(|(_, r)| r.load(Ordering::Relaxed)).map(|(n, _)| *n).collect();

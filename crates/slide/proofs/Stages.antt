@@ -1,10 +1,15 @@
--- Laws over plain variables: the stages of an RK4 step whose derivative does not use the time, and a turn of the root search. Assumes nothing.
+-- Laws over plain variables: the stages of an RK4 step whose derivative does not use the time, the first stage of a turning slide, and a turn of the root search. Assumes nothing.
 use Prim.Native.Nat.{ℕ, _-_, _<_}
-use mathlib.Core.Path.{_≡_}
+use mathlib.Core.Path.{_≡_, refl, ap, sym, _∙_}
+use mathlib.Core.Bool.{Bool, true, false, cond}
 use lib.Ieee.{Float}
 use Rattle.number.specs.Ops.{_⊘_, dec}
 use Rattle.rk4.specs.declared.Motion.{Motion}
 use Rattle.rk4.specs.Rk4.{addScaled, stepStateOf}
+use Rattle.vector.specs.declared.DVec3.{DVec3}
+use Rattle.vector.specs.Vec.{vdivs, vlength}
+use Rattle.slide.specs.declared.Patch.{Patch}
+use Rattle.slide.specs.Slide.{patchSlip, slideRate, turningRate}
 use Rattle.search.specs.declared.Search.{Search}
 use Rattle.search.specs.declared.RootStep.{RootStep}
 use Rattle.search.specs.Search.{inBracket, narrowed, afterStep, rootFrom, plain, root-turn}
@@ -25,6 +30,15 @@ pub stages :
     r ≡ stepStateOf (λ s _. g s) s t h
 unfolding stepStateOf
 stages g s t h p1 q2 p2 q3 p3 q4 p4 a b c r = simp (r, c, b, a, p4, q4, p3, q3, p2, q2, p1)
+
+either : {A : Type 0} (b : Bool) (x : A) → cond b x x ≡ x
+either true x = refl
+either false x = refl
+
+-- with the slip direction at s as the fallback, the stage at s has that direction, whatever its length
+pub at-start : (p : Patch) (s : Motion) {u w : DVec3} {len : Float} {k : Motion} → (u ≡ patchSlip p s) → len ≡ vlength u → w ≡ vdivs u len → k ≡ slideRate p s w → k ≡ turningRate p w s
+unfolding turningRate
+at-start p s a b d e = e ∙ simp (← a, ← b, ← d, either)
 
 pub turned :
     (f : Float → Float) (s : Search) (n : ℕ) {x fx : Float} {r r' : RootStep} →

@@ -1,5 +1,7 @@
 // A ball on the ground: the slide, and one ground step.
 ghost use mathlib.Core.Path.{_≡_};
+ghost use Rattle.vector.specs.Vec.{vlength};
+ghost use Rattle.contact.specs.Contact.{slipOf};
 ghost use Rattle.search.specs.Search.{findRoot, plain};
 ghost use Rattle.slide.specs.Slide.{slideAccel, slideSpinAccel, slideRate, fixedRate, slideFixed, patchSlip, turningRate, slideTurning, slipSpeed, slipDecay, slipRate, timeToRoll, finishOf, aboveOf, guessOf, finishFrom, slideToThreshold, slideOnSlope, slideOf};
 ghost use Rattle.slide.specs.ContactStep.{pivotAccel, patchOf, slidTo, slideStep, rollPatchOf, decelOf, headingOf, stopsOf, stopTime, restPos, restSpin, restOf, resistanceOf, rollRate, rollBy, rolledSpin, rollOn, rollStep, contactStepOf};
@@ -131,12 +133,12 @@ impl Patch {
         self.slide_rate(s, fallback)
     }
 
-    // One RK4 slide step of length `h`, with the slip direction evaluated at every stage.
-    pub fn slide_turning(self, s: Motion, t: f64, h: f64, fallback: DVec3) -> Motion
+    // One RK4 slide step of length `h`, with the slip direction evaluated at every stage; `k1` is the first stage's rate.
+    fn slide_turning(self, s: Motion, t: f64, h: f64, fallback: DVec3, k1: Motion) -> Motion
+        requires { ⌜ k1 ≡ turningRate self fallback s ⌝ }
         ensures { λ r. ⌜ r ≡ slideTurning self s t h fallback ⌝ }
     {
         let half = h / 2.0;
-        let k1 = self.turning_rate(fallback, s);
         let k2 = self.turning_rate(fallback, s.add_scaled(k1, half));
         let k3 = self.turning_rate(fallback, s.add_scaled(k2, half));
         let k4 = self.turning_rate(fallback, s.add_scaled(k3, h));
@@ -187,12 +189,11 @@ fn time_to_roll(len: f64, rate: f64) -> f64
     1.0 / 0.0
 }
 
-// Slide to zero slip along the current slip direction, for at most `left`.
-fn finish(patch: Patch, s: Motion, t: f64, left: f64) -> Slid
+// Slide to zero slip along the current slip direction, for at most `left`; `u` is the slip and `len` its length.
+fn finish(patch: Patch, s: Motion, t: f64, left: f64, u: DVec3, len: f64) -> Slid
+    requires { ⌜ (u ≡ patchSlip patch s) × (len ≡ vlength u) ⌝ }
     ensures { λ r. ⌜ r ≡ finishOf patch s t left ⌝ }
 {
-    let u = patch.slip_of(s);
-    let len = u.length();
     if len <= SLIP_EPS {
         return Slid {
             motion: s,
@@ -210,10 +211,19 @@ fn finish(patch: Patch, s: Motion, t: f64, left: f64) -> Slid
     }
 }
 
-fn above(patch: Patch, start: Motion, t: f64, u_hat0: DVec3, threshold: f64, tau: f64) -> f64
+fn above(
+    patch: Patch,
+    start: Motion,
+    t: f64,
+    u_hat0: DVec3,
+    k1: Motion,
+    threshold: f64,
+    tau: f64,
+) -> f64
+    requires { ⌜ k1 ≡ turningRate patch «u_hat0» start ⌝ }
     ensures { λ r. ⌜ r ≡ aboveOf patch start t «u_hat0» threshold tau ⌝ }
 {
-    patch.slip_speed(patch.slide_turning(start, t, tau, u_hat0)) - threshold
+    patch.slip_speed(patch.slide_turning(start, t, tau, u_hat0, k1)) - threshold
 }
 
 fn guess_of(over: f64, rate: f64, dt: f64) -> f64
@@ -231,17 +241,19 @@ fn time_at_threshold(
     start: Motion,
     t: f64,
     u_hat0: DVec3,
+    k1: Motion,
     threshold: f64,
     b: Bracket,
     guess: f64,
 ) -> f64
+    requires { ⌜ k1 ≡ turningRate patch «u_hat0» start ⌝ }
     ensures { λ r. ⌜ r ≡ findRoot plain (aboveOf patch start t «u_hat0» threshold) b guess ⌝ }
 {
     let mut s = search::start_search(b, guess);
     let mut left: u64 = 200;
     while 0 < left {
         let x = search::in_bracket(s);
-        let fx = above(patch, start, t, u_hat0, threshold, x);
+        let fx = above(patch, start, t, u_hat0, k1, threshold, x);
         let step = search::narrow(s, x, fx);
         match step {
             RootStep::Next(next) => {
@@ -257,11 +269,21 @@ fn time_at_threshold(
 }
 
 // Slide to `tau` with the slip direction turning, then finish along the direction there.
-fn finish_from(patch: Patch, start: Motion, t: f64, dt: f64, u_hat0: DVec3, tau: f64) -> Slid
+fn finish_from(
+    patch: Patch,
+    start: Motion,
+    t: f64,
+    dt: f64,
+    u_hat0: DVec3,
+    k1: Motion,
+    tau: f64,
+) -> Slid
+    requires { ⌜ k1 ≡ turningRate patch «u_hat0» start ⌝ }
     ensures { λ r. ⌜ r ≡ finishFrom patch start t dt «u_hat0» tau ⌝ }
 {
-    let mid = patch.slide_turning(start, t, tau, u_hat0);
-    let end = finish(patch, mid, t + tau, dt - tau);
+    let mid = patch.slide_turning(start, t, tau, u_hat0, k1);
+    let u = patch.slip_of(mid);
+    let end = finish(patch, mid, t + tau, dt - tau, u, u.length());
     let motion = end.motion;
     Slid {
         motion,
@@ -277,12 +299,14 @@ fn slide_to_threshold(
     t: f64,
     dt: f64,
     u_hat0: DVec3,
+    k1: Motion,
     s0: f64,
     threshold: f64,
 ) -> Slid
+    requires { ⌜ k1 ≡ turningRate patch «u_hat0» start ⌝ }
     ensures { λ r. ⌜ r ≡ slideToThreshold patch start t dt «u_hat0» s0 threshold ⌝ }
 {
-    let full = patch.slide_turning(start, t, dt, u_hat0);
+    let full = patch.slide_turning(start, t, dt, u_hat0, k1);
     let s_full = patch.slip_speed(full);
     if s_full > threshold {
         return Slid {
@@ -298,8 +322,8 @@ fn slide_to_threshold(
         hi: dt,
         f_hi: s_full - threshold,
     };
-    let tau = time_at_threshold(patch, start, t, u_hat0, threshold, b, guess);
-    finish_from(patch, start, t, dt, u_hat0, tau)
+    let tau = time_at_threshold(patch, start, t, u_hat0, k1, threshold, b, guess);
+    finish_from(patch, start, t, dt, u_hat0, k1, tau)
 }
 
 // A slide on a slope that starts above the threshold.
@@ -309,38 +333,57 @@ fn slide_on_slope(
     t: f64,
     dt: f64,
     u_hat0: DVec3,
+    k1: Motion,
     s0: f64,
     threshold: f64,
 ) -> Slid
+    requires { ⌜ k1 ≡ turningRate patch «u_hat0» start ⌝ }
     ensures { λ r. ⌜ r ≡ slideOnSlope patch start t dt «u_hat0» s0 threshold ⌝ }
 {
     let g_t = patch.g_t;
     let fastest = patch.slip_decay() + g_t.length();
     if s0 - threshold > fastest * dt {
         return Slid {
-            motion: patch.slide_turning(start, t, dt, u_hat0),
+            motion: patch.slide_turning(start, t, dt, u_hat0, k1),
             time: dt,
             rolls: false,
         };
     }
-    slide_to_threshold(patch, start, t, dt, u_hat0, s0, threshold)
+    slide_to_threshold(patch, start, t, dt, u_hat0, k1, s0, threshold)
+}
+
+// A slide whose slip is `u0`, of length `s0`. The turning slide's first stage has the slip direction there, and its rate serves every use.
+fn slide_from(
+    patch: Patch,
+    start: Motion,
+    t: f64,
+    dt: f64,
+    roll_threshold: f64,
+    u0: DVec3,
+    s0: f64,
+) -> Slid
+    requires { ⌜ (u0 ≡ patchSlip patch start) × (s0 ≡ vlength u0) ⌝ }
+    ensures { λ r. ⌜ r ≡ slideOf patch start t dt «roll_threshold» ⌝ }
+{
+    let threshold = number::max(roll_threshold, MIN_SWITCH_SLIP);
+    let g_t = patch.g_t;
+    if g_t.same(DVec3::ZERO) {
+        return finish(patch, start, t, dt, u0, s0);
+    }
+    if s0 <= threshold {
+        return finish(patch, start, t, dt, u0, s0);
+    }
+    let u_hat0 = u0.div(s0);
+    let k1 = patch.slide_rate(start, u_hat0);
+    slide_on_slope(patch, start, t, dt, u_hat0, k1, s0, threshold)
 }
 
 // Slide from `start`, with slip above SLIP_EPS, for at most `dt`.
 pub fn slide(patch: Patch, start: Motion, t: f64, dt: f64, roll_threshold: f64) -> Slid
     ensures { λ r. ⌜ r ≡ slideOf patch start t dt «roll_threshold» ⌝ }
 {
-    let threshold = number::max(roll_threshold, MIN_SWITCH_SLIP);
-    let g_t = patch.g_t;
-    if g_t.same(DVec3::ZERO) {
-        return finish(patch, start, t, dt);
-    }
     let u0 = patch.slip_of(start);
-    let s0 = u0.length();
-    if s0 <= threshold {
-        return finish(patch, start, t, dt);
-    }
-    slide_on_slope(patch, start, t, dt, u0.div(s0), s0, threshold)
+    slide_from(patch, start, t, dt, roll_threshold, u0, u0.length())
 }
 
 fn pivot_accel_of(w: f64, pivot: f64, g_n: f64, inertia: f64, n: DVec3) -> DVec3
@@ -382,13 +425,23 @@ fn slid_to(patch: Patch, spin: DVec3, end: Slid) -> Locked
     Locked { vel, spin: w }
 }
 
-fn slide_step(patch: Patch, state: BallState, vel: DVec3, dt: f64, roll_threshold: f64) -> Stepped
+// The step of a ball that slides with the slip `u`, of length `len`.
+fn slide_step(
+    patch: Patch,
+    state: BallState,
+    vel: DVec3,
+    dt: f64,
+    roll_threshold: f64,
+    u: DVec3,
+    len: f64,
+) -> Stepped
+    requires { ⌜ (u ≡ slipOf vel (state .spin) (patch .n) (patch .radius)) × (len ≡ vlength u) ⌝ }
     ensures { λ r. ⌜ r ≡ slideStep patch state vel dt «roll_threshold» ⌝ }
 {
     let pos = state.pos;
     let spin = state.spin;
     let start = Motion { pos, vel, spin };
-    let end = slide(patch, start, state.time, dt, roll_threshold);
+    let end = slide_from(patch, start, state.time, dt, roll_threshold, u, len);
     let out = slid_to(patch, spin, end);
     let m = end.motion;
     let pos_out = m.pos;
@@ -497,25 +550,28 @@ fn rest_after(q: RollPatch, state: BallState, vel: DVec3, heading: DVec3, w: f64
     }
 }
 
-fn resistance(q: RollPatch, vel: DVec3) -> DVec3
+// The resistance at the velocity `vel`, of length `v`; `d` is the deceleration at `v`.
+fn resistance(q: RollPatch, vel: DVec3, v: f64, d: f64) -> DVec3
+    requires { ⌜ (v ≡ vlength vel) × (d ≡ decelOf q v) ⌝ }
     ensures { λ r. ⌜ r ≡ resistanceOf q vel ⌝ }
 {
-    let v = vel.length();
     if v > SLIP_EPS {
-        return vel.scale(-decel(q, v)).div(v);
+        return vel.scale(-d).div(v);
     }
     let downhill = q.downhill;
     downhill.scale(-decel(q, 0.0))
 }
 
-fn roll_rate(q: RollPatch, s: Motion) -> Motion
+// The rate under the resistance `resist`.
+fn rate_under(q: RollPatch, s: Motion, resist: DVec3) -> Motion
+    requires { ⌜ resist ≡ resistanceOf q (s .vel) ⌝ }
     ensures { λ r. ⌜ r ≡ rollRate q s ⌝ }
 {
     let vel = s.vel;
     let slope = q.slope;
     let n = q.n;
     let pivot_accel = q.pivot_accel;
-    let dv = resistance(q, vel).add(slope);
+    let dv = resist.add(slope);
     Motion {
         pos: vel,
         vel: dv,
@@ -523,11 +579,20 @@ fn roll_rate(q: RollPatch, s: Motion) -> Motion
     }
 }
 
-fn roll_by(q: RollPatch, s: Motion, t: f64, dt: f64) -> Motion
+fn roll_rate(q: RollPatch, s: Motion) -> Motion
+    ensures { λ r. ⌜ r ≡ rollRate q s ⌝ }
+{
+    let vel = s.vel;
+    let v = vel.length();
+    rate_under(q, s, resistance(q, vel, v, decel(q, v)))
+}
+
+// One RK4 step of a ball that rolls; `k1` is the first stage's rate.
+fn roll_by(q: RollPatch, s: Motion, t: f64, dt: f64, k1: Motion) -> Motion
+    requires { ⌜ k1 ≡ rollRate q s ⌝ }
     ensures { λ r. ⌜ r ≡ rollBy q s t dt ⌝ }
 {
     let half = dt / 2.0;
-    let k1 = roll_rate(q, s);
     let k2 = roll_rate(q, s.add_scaled(k1, half));
     let k3 = roll_rate(q, s.add_scaled(k2, half));
     let k4 = roll_rate(q, s.add_scaled(k3, dt));
@@ -547,14 +612,16 @@ fn rolled_spin(q: RollPatch, spin: DVec3, m: Motion) -> DVec3
     n.cross(vel).div(q.radius).add(spin_n)
 }
 
-fn roll_on(q: RollPatch, state: BallState, locked: Locked, dt: f64) -> Stepped
+// The step of a ball that rolls on; `resist` is the resistance at its velocity.
+fn roll_on(q: RollPatch, state: BallState, locked: Locked, dt: f64, resist: DVec3) -> Stepped
+    requires { ⌜ resist ≡ resistanceOf q (locked .vel) ⌝ }
     ensures { λ r. ⌜ r ≡ rollOn q state locked dt ⌝ }
 {
     let pos = state.pos;
     let vel = locked.vel;
     let spin = locked.spin;
     let start = Motion { pos, vel, spin };
-    let m = roll_by(q, start, state.time, dt);
+    let m = roll_by(q, start, state.time, dt, rate_under(q, start, resist));
     let pos_out = m.pos;
     let vel_out = m.vel;
     let next = BallState {
@@ -584,12 +651,13 @@ fn roll_step(
     let slope = q.slope;
     let speed = vel.length();
     let heading = heading_of(q, vel, speed);
-    let a0 = decel(q, speed) - slope.dot(heading);
+    let d = decel(q, speed);
+    let a0 = d - slope.dot(heading);
     if stops(q, speed, a0, dt, stop_speed) {
         let t_stop = stop_time(speed, a0);
         return rest_after(q, state, vel, heading, w, t_stop);
     }
-    roll_on(q, state, locked, dt)
+    roll_on(q, state, locked, dt, resistance(q, vel, speed, d))
 }
 
 // One ground step of at most `dt` on the ground sample `at`; a stop may take longer.
@@ -613,8 +681,10 @@ pub fn contact_step(
     let spin = state.spin;
     let w = spin.dot(n);
     let patch = patch_of(n, surface, radius, k, w);
-    if contact::slip(vel, spin, n, radius).length() > SLIP_EPS {
-        return slide_step(patch, state, vel, dt, roll_threshold);
+    let u = contact::slip(vel, spin, n, radius);
+    let len = u.length();
+    if len > SLIP_EPS {
+        return slide_step(patch, state, vel, dt, roll_threshold, u, len);
     }
     let locked = contact::lock_rolling(vel, spin, n, radius, k);
     roll_step(

@@ -9,14 +9,17 @@ use Rattle.slide.proofs.time_at_threshold.Statement.{statement}
 use Rattle.slide.proofs.time_at_threshold.Tie as tie
 
 abbrev Inv-loop : tie.InvT-loop
-Inv-loop patch start t u-hat0 threshold guess s₀ left₀ s left =
+Inv-loop patch start t u-hat0 k1 threshold guess s₀ left₀ s left =
     rootFrom plain (aboveOf patch start t u-hat0 threshold) left s ≡ rootFrom plain (aboveOf patch start t u-hat0 threshold) left₀ s₀
 
 abbrev μ-loop : tie.MeasureT-loop
-μ-loop patch start t u-hat0 threshold guess s₀ left₀ s left = left
+μ-loop patch start t u-hat0 k1 threshold guess s₀ left₀ s left = left
 
 loop-holds : tie.Need-loop-holds Inv-loop μ-loop
 loop-holds c = refl
+
+above-requires : tie.Need-above-requires Inv-loop μ-loop
+above-requires c κs = c .before .before .before .before .pre
 
 enum-known-step : tie.Need-enum-known-step Inv-loop μ-loop
 enum-known-step c = search needs
@@ -42,4 +45,4 @@ unfolding findRoot
 returns-2 c = rw (← c .before .before .start-search .ensures) (root-ended plain _ _ _ (c .loop-test .left) ∙ c .before .loop .inv)
 
 pub time-at-threshold-spec : {M : Type 1} → statement M
-time-at-threshold-spec = tie.close (tie.spec Inv-loop μ-loop (λ c κs. tt) loop-holds (λ c κs. tt) (λ c κs. tt) (λ c κs. tt) enum-known-step enum-known-step-2 returns sub-left loop-less loop-again returns-2)
+time-at-threshold-spec = tie.close (tie.spec Inv-loop μ-loop (λ c κs. tt) loop-holds (λ c κs. tt) above-requires (λ c κs. tt) enum-known-step enum-known-step-2 returns sub-left loop-less loop-again returns-2)

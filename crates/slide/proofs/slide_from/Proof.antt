@@ -1,0 +1,30 @@
+-- `slide_from` meets its contract.
+use Rattle.slide.specs.Slide.{slideOf}
+use lib.Ieee.{ofBits, round}
+use Rattle.slide.proofs.Stages.{at-start}
+use Rattle.slide.proofs.slide_from.Statement.{statement}
+use Rattle.slide.proofs.slide_from.Tie as tie
+
+finish-requires : tie.Need-finish-requires
+finish-requires c κs = c .before .before .before .before .pre
+
+returns : tie.Need-returns
+unfolding slideOf ofBits round
+returns c = simp (← c .before .before .before .before .max .ensures, ← c .before .before .same .ensures, ← c .finish .ensures, c .before .if1 .taken)
+
+finish-requires-2 : tie.Need-finish-requires-2
+finish-requires-2 c κs = c .before .before .before .before .before .pre
+
+returns-2 : tie.Need-returns-2
+unfolding slideOf ofBits round
+returns-2 c = simp (← c .before .before .before .before .before .max .ensures, ← c .before .before .before .same .ensures, ← c .before .before .before .before .before .before .pre .0, ← c .before .before .before .before .before .before .pre .1, ← c .finish2 .ensures, c .before .if2 .taken, c .before .before .if1 .left)
+
+slide-on-slope-requires : tie.Need-slide-on-slope-requires
+slide-on-slope-requires c κs = at-start _ _ (c .before .before .before .before .before .before .before .pre .0) (c .before .before .before .before .before .before .before .pre .1) (c .before .div .ensures) (c .slide-rate .ensures)
+
+returns-3 : tie.Need-returns-3
+unfolding slideOf ofBits round
+returns-3 c = simp (← c .before .before .before .before .before .before .before .max .ensures, ← c .before .before .before .before .before .same .ensures, ← c .before .before .before .before .before .before .before .before .pre .0, ← c .before .before .before .before .before .before .before .before .pre .1, ← c .before .before .div .ensures, ← c .slide-on-slope .ensures, c .before .before .before .if2 .left, c .before .before .before .before .if1 .left)
+
+pub slide-from-spec : {M : Type 1} → statement M
+slide-from-spec = tie.close (tie.spec (λ c κs. tt) (λ c κs. tt) finish-requires returns finish-requires-2 returns-2 (λ c κs. tt) (λ c κs. tt) slide-on-slope-requires returns-3)
