@@ -2,7 +2,6 @@
 // functions' own answers.
 ghost use mathlib.Core.Path.{_≡_};
 ghost use lib.ListN.{length};
-ghost use Rattle.ground.specs.Settle.{terminationNumber};
 ghost use Rattle.capi.specs.Doors.{reported, stepped, struck, door, settleDoor, settleDoorOf, stepDoorOf, impactDoorOf, heightDoorOf};
 ghost use Rattle.capi.specs.Boards.{entered, newDoorOf, enterDoorOf, placeDoorOf};
 use board::Board;
@@ -10,18 +9,6 @@ use board::Entered;
 use ground::ImpactOut;
 use ground::Settled;
 use ground::StepOut;
-use roll::Termination;
-
-fn termination_number(t: Termination) -> u64
-    ensures { λ r. ⌜ r ≡ terminationNumber t ⌝ }
-{
-    match t {
-        Termination::Nothing => 0,
-        Termination::Rest => 1,
-        Termination::MaxTime => 2,
-        Termination::MaxImpacts => 3,
-    }
-}
 
 // The 19 doubles of a settle's result, if there is room for them.
 fn write_result(result: &mut [f64], s: Settled)
@@ -38,7 +25,7 @@ fn write_result(result: &mut [f64], s: Settled)
     let rect = s.rect;
     let rec = [
         fields::whole(s.answer as u64),
-        fields::whole(termination_number(termination)),
+        fields::whole(ground::termination_number(termination)),
         fields::whole(s.contacts as u64),
         fields::whole(s.points as u64),
         fields::whole(s.steps),

@@ -3,7 +3,7 @@ ghost use mathlib.Core.Path.{_≡_};
 ghost use Rattle.course.specs.Index.{Ready};
 ghost use Rattle.roll.specs.Roll.{lastOf};
 ghost use Rattle.ground.specs.Tests.{stepPhysicsOk, physicsOk, ballOk, densityOk, vecAbout, landingOk, inputTest, refusalOf, stepTest, impactTest};
-ghost use Rattle.ground.specs.Settle.{result, refusal as refusalR, conditionsOf, settleOf};
+ghost use Rattle.ground.specs.Settle.{result, refusal as refusalR, conditionsOf, settleOf, terminationNumber};
 ghost use Rattle.ground.specs.Contracts.{settledBy};
 ghost use Rattle.ground.specs.Step.{stepOut, stepMade, stepOf, impactOut, impactMade, impactAnswer};
 use aero::BallModel;
@@ -141,6 +141,17 @@ pub struct Settled {
     pub steps: u64,
     pub rest: BallState,
     pub rect: Rect,
+}
+
+pub fn termination_number(t: Termination) -> u64
+    ensures { λ r. ⌜ r ≡ terminationNumber t ⌝ }
+{
+    match t {
+        Termination::Nothing => 0,
+        Termination::Rest => 1,
+        Termination::MaxTime => 2,
+        Termination::MaxImpacts => 3,
+    }
 }
 
 fn refused(answer: u32) -> Settled

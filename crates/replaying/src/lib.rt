@@ -1,11 +1,14 @@
 // An entry of the fixed list of the reference's answers (compare/README.md, "The fixed list"): 24 words of 8 bytes, then the input's bytes.
+ghost use mathlib.Core.Path.{_≡_};
+ghost use mathlib.Core.Bool.{not, _&&_};
+ghost use mathlib.Core.List.{map};
 ghost use Prim.Native.Nat.{_+_, _*_, _≤_};
-ghost use lib.ListN.{length};
+ghost use lib.Dec.{eqb};
+ghost use lib.Ieee.{isNan};
+ghost use lib.ListN.{length, drop};
+ghost use Rattle.input.specs.Input.{wholeAt, settleInputOf};
+ghost use Rattle.replaying.specs.Replaying.{bitsOf, sumsOf, countWords, doublesOf, sumWords, holds, noNan, sameOf, replayedOf};
 use ground::Settled;
-use look::Rect;
-use roll::Termination;
-use surface::BallState;
-use vector::DVec3;
 
 pub enum Replayed {
     Same,
@@ -22,78 +25,107 @@ struct Sums {
 // Word i.
 fn word(entry: &[u8], i: usize) -> u64
     requires { ⌜ 8 * i + 8 ≤ length (now entry) ⌝ }
+    ensures { λ r. ⌜ r ≡ wholeAt (now (entry .entry)) i ⌝ }
 {
     course::word(entry, 8 * i)
 }
 
+// The words from word i on are these.
+fn same_words(entry: &[u8], i: usize, words: &[u64]) -> bool
+    requires { ⌜ 8 * (i + length (now words)) ≤ length (now entry) ⌝ }
+    ensures { λ r. ⌜ r ≡ holds (now (entry .entry)) i (now (words .entry)) ⌝ }
+{
+    let mut k = 0;
+    while k < words.len() {
+        if words[k] != word(entry, i + k) {
+            return false;
+        }
+        k += 1;
+    }
+    true
+}
+
 // The bits of v. Those of a NaN are free, and all ones stand for them; the list holds no NaN.
-fn bits(v: f64) -> u64 {
+fn bits(v: f64) -> u64
+    ensures { λ r. ⌜ r ≡ bitsOf v ⌝ }
+{
     if v == v {
         return f64::to_bits(v);
     }
     18446744073709551615
 }
 
-fn same_double(v: f64, expected: u64) -> bool {
+fn same_double(v: f64, expected: u64) -> bool
+    ensures { λ r. ⌜ r ≡ (not (isNan v) && eqb (bitsOf v) expected) ⌝ }
+{
     (v == v) & (bits(v) == expected)
 }
 
-// The words i, i + 1 and i + 2.
-fn same_vector(v: DVec3, entry: &[u8], i: usize) -> bool
-    requires { ⌜ 8 * i + 24 ≤ length (now entry) ⌝ }
+// The words from word i on are the bits of these doubles, and none is a NaN.
+fn same_doubles(entry: &[u8], i: usize, doubles: &[f64]) -> bool
+    requires { ⌜ 8 * (i + length (now doubles)) ≤ length (now entry) ⌝ }
+    ensures { λ r. ⌜ r ≡ (noNan (now (doubles .entry)) && holds (now (entry .entry)) i (map bitsOf (now (doubles .entry)))) ⌝ }
 {
-    same_double(v.x, word(entry, i))
-        & same_double(v.y, word(entry, i + 1))
-        & same_double(v.z, word(entry, i + 2))
-}
-
-// The words 8 to 17.
-fn same_state(state: BallState, entry: &[u8]) -> bool
-    requires { ⌜ 192 ≤ length (now entry) ⌝ }
-{
-    let pos = state.pos;
-    let vel = state.vel;
-    let spin = state.spin;
-    same_double(state.time, word(entry, 8))
-        & same_vector(pos, entry, 9)
-        & same_vector(vel, entry, 12)
-        & same_vector(spin, entry, 15)
-}
-
-// The words 18 to 21.
-fn same_rect(rect: Rect, entry: &[u8]) -> bool
-    requires { ⌜ 192 ≤ length (now entry) ⌝ }
-{
-    same_double(rect.x_lo, word(entry, 18))
-        & same_double(rect.x_hi, word(entry, 19))
-        & same_double(rect.z_lo, word(entry, 20))
-        & same_double(rect.z_hi, word(entry, 21))
-}
-
-// Word 4.
-fn termination_number(t: Termination) -> u64 {
-    match t {
-        Termination::Nothing => 0,
-        Termination::Rest => 1,
-        Termination::MaxTime => 2,
-        Termination::MaxImpacts => 3,
+    let mut k = 0;
+    while k < doubles.len() {
+        if same_double(doubles[k], word(entry, i + k)) {
+            k += 1;
+        } else {
+            return false;
+        }
     }
+    true
 }
 
 // The words 3 to 7.
-fn same_counts(r: Settled, entry: &[u8]) -> bool
+fn same_counts(entry: &[u8], s: Settled) -> bool
     requires { ⌜ 192 ≤ length (now entry) ⌝ }
+    ensures { λ r. ⌜ r ≡ holds (now (entry .entry)) 3 (countWords s) ⌝ }
 {
-    let t = r.termination;
-    (r.answer as u64 == word(entry, 3))
-        & (termination_number(t) == word(entry, 4))
-        & (r.contacts as u64 == word(entry, 5))
-        & (r.points as u64 == word(entry, 6))
-        & (r.steps == word(entry, 7))
+    let t = s.termination;
+    let counts = [
+        s.answer as u64,
+        ground::termination_number(t),
+        s.contacts as u64,
+        s.points as u64,
+        s.steps,
+    ];
+    same_words(entry, 3, &counts)
+}
+
+// The words 8 to 21: the final state and the rectangle.
+fn same_end(entry: &[u8], s: Settled) -> bool
+    requires { ⌜ 192 ≤ length (now entry) ⌝ }
+    ensures { λ r. ⌜ r ≡ (noNan (doublesOf s) && holds (now (entry .entry)) 8 (map bitsOf (doublesOf s))) ⌝ }
+{
+    let rest = s.rest;
+    let pos = rest.pos;
+    let vel = rest.vel;
+    let spin = rest.spin;
+    let rect = s.rect;
+    let doubles = [
+        rest.time,
+        pos.x,
+        pos.y,
+        pos.z,
+        vel.x,
+        vel.y,
+        vel.z,
+        spin.x,
+        spin.y,
+        spin.z,
+        rect.x_lo,
+        rect.x_hi,
+        rect.z_lo,
+        rect.z_hi,
+    ];
+    same_doubles(entry, 8, &doubles)
 }
 
 // For each double of bits w: a = a + w, then b = b + a, both modulo 2^64.
-fn add_list(sums: Sums, list: &[f64]) -> Sums {
+fn add_list(sums: Sums, list: &[f64]) -> Sums
+    ensures { λ r. ⌜ r ≡ sumsOf sums (now (list .entry)) ⌝ }
+{
     let mut a = sums.a;
     let mut b = sums.b;
     let mut i = 0;
@@ -105,28 +137,29 @@ fn add_list(sums: Sums, list: &[f64]) -> Sums {
     Sums { a, b }
 }
 
-fn same_lists(contacts: &[f64], points: &[f64], entry: &[u8]) -> bool
+// The words 22 and 23.
+fn same_lists(entry: &[u8], contacts: &[f64], points: &[f64]) -> bool
     requires { ⌜ 192 ≤ length (now entry) ⌝ }
+    ensures { λ r. ⌜ r ≡ holds (now (entry .entry)) 22 (sumWords (now (contacts .entry)) (now (points .entry))) ⌝ }
 {
     let sums = add_list(add_list(Sums { a: 0, b: 0 }, contacts), points);
-    (sums.a == word(entry, 22)) & (sums.b == word(entry, 23))
+    let words = [sums.a, sums.b];
+    same_words(entry, 22, &words)
 }
 
 // Settles the entry's input with these lists lent, and compares everything that the call gives.
 fn gives_same(entry: &[u8], contacts: &mut [f64], points: &mut [f64]) -> bool
     requires { ⌜ 192 ≤ length (now entry) ⌝ }
+    ensures { λ r. ⌜ r ≡ sameOf (now (entry .entry)) (settleInputOf (drop 192 (now (entry .entry))) (now (contacts .entry)) (now (points .entry))) ⌝ }
 {
-    let r = input::settle_input(&entry[192..], contacts, points);
-    let rest = r.rest;
-    let rect = r.rect;
-    same_counts(r, entry)
-        & same_state(rest, entry)
-        & same_rect(rect, entry)
-        & same_lists(contacts, points, entry)
+    let s = input::settle_input(&entry[192..], contacts, points);
+    same_counts(entry, s) & same_end(entry, s) & same_lists(entry, contacts, points)
 }
 
 // Replays an entry, every lent double 1.0 before the call. An entry lends at most 65 contacts and 641 points.
-pub fn replay_entry(entry: &[u8]) -> Replayed {
+pub fn replay_entry(entry: &[u8]) -> Replayed
+    ensures { λ r. ⌜ r ≡ replayedOf (now (entry .entry)) ⌝ }
+{
     if entry.len() < 192 {
         return Replayed::Damaged;
     }

@@ -1,8 +1,8 @@
 -- The number of each termination.
 use borrow.Author.Needs.{needs}
 use Rattle.ground.specs.Settle.{terminationNumber}
-use Rattle.capi.proofs.termination_number.Statement.{statement}
-use Rattle.capi.proofs.termination_number.Tie as tie
+use Rattle.ground.proofs.termination_number.Statement.{statement}
+use Rattle.ground.proofs.termination_number.Tie as tie
 
 returns : tie.Need-returns
 unfolding terminationNumber
