@@ -135,8 +135,7 @@ impl Patch {
 
     // One RK4 slide step of length `h`, with the slip direction evaluated at every stage; `k1` is the first stage's rate.
     fn slide_turning(self, s: Motion, t: f64, h: f64, fallback: DVec3, k1: Motion) -> Motion
-        requires { ⌜ k1 ≡ turningRate self fallback s ⌝ }
-        ensures { λ r. ⌜ r ≡ slideTurning self s t h fallback ⌝ }
+        ensures { λ r. ⌜ (k1 ≡ turningRate self fallback s → r ≡ slideTurning self s t h fallback) ⌝ }
     {
         let half = h / 2.0;
         let k2 = self.turning_rate(fallback, s.add_scaled(k1, half));
@@ -191,8 +190,7 @@ fn time_to_roll(len: f64, rate: f64) -> f64
 
 // Slide to zero slip along the current slip direction, for at most `left`; `u` is the slip and `len` its length.
 fn finish(patch: Patch, s: Motion, t: f64, left: f64, u: DVec3, len: f64) -> Slid
-    requires { ⌜ (u ≡ patchSlip patch s) × (len ≡ vlength u) ⌝ }
-    ensures { λ r. ⌜ r ≡ finishOf patch s t left ⌝ }
+    ensures { λ r. ⌜ ((u ≡ patchSlip patch s) × (len ≡ vlength u) → r ≡ finishOf patch s t left) ⌝ }
 {
     if len <= SLIP_EPS {
         return Slid {
@@ -220,8 +218,7 @@ fn above(
     threshold: f64,
     tau: f64,
 ) -> f64
-    requires { ⌜ k1 ≡ turningRate patch «u_hat0» start ⌝ }
-    ensures { λ r. ⌜ r ≡ aboveOf patch start t «u_hat0» threshold tau ⌝ }
+    ensures { λ r. ⌜ (k1 ≡ turningRate patch «u_hat0» start → r ≡ aboveOf patch start t «u_hat0» threshold tau) ⌝ }
 {
     patch.slip_speed(patch.slide_turning(start, t, tau, u_hat0, k1)) - threshold
 }
@@ -246,8 +243,7 @@ fn time_at_threshold(
     b: Bracket,
     guess: f64,
 ) -> f64
-    requires { ⌜ k1 ≡ turningRate patch «u_hat0» start ⌝ }
-    ensures { λ r. ⌜ r ≡ findRoot plain (aboveOf patch start t «u_hat0» threshold) b guess ⌝ }
+    ensures { λ r. ⌜ (k1 ≡ turningRate patch «u_hat0» start → r ≡ findRoot plain (aboveOf patch start t «u_hat0» threshold) b guess) ⌝ }
 {
     let mut s = search::start_search(b, guess);
     let mut left: u64 = 200;
@@ -278,8 +274,7 @@ fn finish_from(
     k1: Motion,
     tau: f64,
 ) -> Slid
-    requires { ⌜ k1 ≡ turningRate patch «u_hat0» start ⌝ }
-    ensures { λ r. ⌜ r ≡ finishFrom patch start t dt «u_hat0» tau ⌝ }
+    ensures { λ r. ⌜ (k1 ≡ turningRate patch «u_hat0» start → r ≡ finishFrom patch start t dt «u_hat0» tau) ⌝ }
 {
     let mid = patch.slide_turning(start, t, tau, u_hat0, k1);
     let u = patch.slip_of(mid);
@@ -303,8 +298,7 @@ fn slide_to_threshold(
     s0: f64,
     threshold: f64,
 ) -> Slid
-    requires { ⌜ k1 ≡ turningRate patch «u_hat0» start ⌝ }
-    ensures { λ r. ⌜ r ≡ slideToThreshold patch start t dt «u_hat0» s0 threshold ⌝ }
+    ensures { λ r. ⌜ (k1 ≡ turningRate patch «u_hat0» start → r ≡ slideToThreshold patch start t dt «u_hat0» s0 threshold) ⌝ }
 {
     let full = patch.slide_turning(start, t, dt, u_hat0, k1);
     let s_full = patch.slip_speed(full);
@@ -337,8 +331,7 @@ fn slide_on_slope(
     s0: f64,
     threshold: f64,
 ) -> Slid
-    requires { ⌜ k1 ≡ turningRate patch «u_hat0» start ⌝ }
-    ensures { λ r. ⌜ r ≡ slideOnSlope patch start t dt «u_hat0» s0 threshold ⌝ }
+    ensures { λ r. ⌜ (k1 ≡ turningRate patch «u_hat0» start → r ≡ slideOnSlope patch start t dt «u_hat0» s0 threshold) ⌝ }
 {
     let g_t = patch.g_t;
     let fastest = patch.slip_decay() + g_t.length();
@@ -362,8 +355,7 @@ fn slide_from(
     u0: DVec3,
     s0: f64,
 ) -> Slid
-    requires { ⌜ (u0 ≡ patchSlip patch start) × (s0 ≡ vlength u0) ⌝ }
-    ensures { λ r. ⌜ r ≡ slideOf patch start t dt «roll_threshold» ⌝ }
+    ensures { λ r. ⌜ ((u0 ≡ patchSlip patch start) × (s0 ≡ vlength u0) → r ≡ slideOf patch start t dt «roll_threshold») ⌝ }
 {
     let threshold = number::max(roll_threshold, MIN_SWITCH_SLIP);
     let g_t = patch.g_t;
@@ -435,8 +427,7 @@ fn slide_step(
     u: DVec3,
     len: f64,
 ) -> Stepped
-    requires { ⌜ (u ≡ slipOf vel (state .spin) (patch .n) (patch .radius)) × (len ≡ vlength u) ⌝ }
-    ensures { λ r. ⌜ r ≡ slideStep patch state vel dt «roll_threshold» ⌝ }
+    ensures { λ r. ⌜ ((u ≡ slipOf vel (state .spin) (patch .n) (patch .radius)) × (len ≡ vlength u) → r ≡ slideStep patch state vel dt «roll_threshold») ⌝ }
 {
     let pos = state.pos;
     let spin = state.spin;
@@ -552,8 +543,7 @@ fn rest_after(q: RollPatch, state: BallState, vel: DVec3, heading: DVec3, w: f64
 
 // The resistance at the velocity `vel`, of length `v`; `d` is the deceleration at `v`.
 fn resistance(q: RollPatch, vel: DVec3, v: f64, d: f64) -> DVec3
-    requires { ⌜ (v ≡ vlength vel) × (d ≡ decelOf q v) ⌝ }
-    ensures { λ r. ⌜ r ≡ resistanceOf q vel ⌝ }
+    ensures { λ r. ⌜ ((v ≡ vlength vel) × (d ≡ decelOf q v) → r ≡ resistanceOf q vel) ⌝ }
 {
     if v > SLIP_EPS {
         return vel.scale(-d).div(v);
@@ -564,8 +554,7 @@ fn resistance(q: RollPatch, vel: DVec3, v: f64, d: f64) -> DVec3
 
 // The rate under the resistance `resist`.
 fn rate_under(q: RollPatch, s: Motion, resist: DVec3) -> Motion
-    requires { ⌜ resist ≡ resistanceOf q (s .vel) ⌝ }
-    ensures { λ r. ⌜ r ≡ rollRate q s ⌝ }
+    ensures { λ r. ⌜ (resist ≡ resistanceOf q (s .vel) → r ≡ rollRate q s) ⌝ }
 {
     let vel = s.vel;
     let slope = q.slope;
@@ -589,8 +578,7 @@ fn roll_rate(q: RollPatch, s: Motion) -> Motion
 
 // One RK4 step of a ball that rolls; `k1` is the first stage's rate.
 fn roll_by(q: RollPatch, s: Motion, t: f64, dt: f64, k1: Motion) -> Motion
-    requires { ⌜ k1 ≡ rollRate q s ⌝ }
-    ensures { λ r. ⌜ r ≡ rollBy q s t dt ⌝ }
+    ensures { λ r. ⌜ (k1 ≡ rollRate q s → r ≡ rollBy q s t dt) ⌝ }
 {
     let half = dt / 2.0;
     let k2 = roll_rate(q, s.add_scaled(k1, half));
@@ -614,8 +602,7 @@ fn rolled_spin(q: RollPatch, spin: DVec3, m: Motion) -> DVec3
 
 // The step of a ball that rolls on; `resist` is the resistance at its velocity.
 fn roll_on(q: RollPatch, state: BallState, locked: Locked, dt: f64, resist: DVec3) -> Stepped
-    requires { ⌜ resist ≡ resistanceOf q (locked .vel) ⌝ }
-    ensures { λ r. ⌜ r ≡ rollOn q state locked dt ⌝ }
+    ensures { λ r. ⌜ (resist ≡ resistanceOf q (locked .vel) → r ≡ rollOn q state locked dt) ⌝ }
 {
     let pos = state.pos;
     let vel = locked.vel;

@@ -5,7 +5,7 @@ use Rattle.slide.proofs.rate_under.Tie as tie
 
 returns : tie.Need-returns
 unfolding rollRate
-returns c = simp (← c .before .before .before .before .before .before .before .before .pre, ← c .before .before .before .add .ensures, ← c .before .before .cross .ensures, ← c .before .div .ensures, ← c .add2 .ensures)
+returns c h = simp (← h, ← c .before .before .before .add .ensures, ← c .before .before .cross .ensures, ← c .before .div .ensures, ← c .add2 .ensures)
 
 pub rate-under-spec : {M : Type 1} → statement M
 rate-under-spec = tie.close (tie.spec (λ c κs. tt) (λ c κs. tt) (λ c κs. tt) (λ c κs. tt) returns)

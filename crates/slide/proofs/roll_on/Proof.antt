@@ -3,15 +3,9 @@ use Rattle.slide.specs.ContactStep.{rollOn}
 use Rattle.slide.proofs.roll_on.Statement.{statement}
 use Rattle.slide.proofs.roll_on.Tie as tie
 
-rate-under-requires : tie.Need-rate-under-requires
-rate-under-requires c κs = c .before .before .before .pre
-
-roll-by-requires : tie.Need-roll-by-requires
-roll-by-requires c κs = c .rate-under .ensures
-
 returns : tie.Need-returns
 unfolding rollOn
-returns c = simp (← c .before .before .before .before .roll-by .ensures, ← c .rolled-spin .ensures)
+returns c h = simp (← (c .before .before .before .before .roll-by .ensures (c .before .before .before .before .before .rate-under .ensures h)), ← c .rolled-spin .ensures)
 
 pub roll-on-spec : {M : Type 1} → statement M
-roll-on-spec = tie.close (tie.spec rate-under-requires roll-by-requires (λ c κs. tt) returns)
+roll-on-spec = tie.close (tie.spec (λ c κs. tt) (λ c κs. tt) (λ c κs. tt) returns)

@@ -2,14 +2,8 @@
 use Rattle.slide.proofs.roll_rate.Statement.{statement}
 use Rattle.slide.proofs.roll_rate.Tie as tie
 
-resistance-requires : tie.Need-resistance-requires
-resistance-requires c κs = (c .before .length .ensures, c .decel .ensures)
-
-rate-under-requires : tie.Need-rate-under-requires
-rate-under-requires c κs = c .resistance .ensures
-
 returns : tie.Need-returns
-returns c = c .rate-under .ensures
+returns c = c .rate-under .ensures (c .before .resistance .ensures (c .before .before .before .length .ensures, c .before .before .decel .ensures))
 
 pub roll-rate-spec : {M : Type 1} → statement M
-roll-rate-spec = tie.close (tie.spec (λ c κs. tt) (λ c κs. tt) resistance-requires rate-under-requires returns)
+roll-rate-spec = tie.close (tie.spec (λ c κs. tt) (λ c κs. tt) (λ c κs. tt) (λ c κs. tt) returns)
