@@ -1,7 +1,6 @@
 // What callers see of a ball that lands: settle, step and impact, with the tests of what is handed in (01).
 ghost use mathlib.Core.Path.{_≡_};
 ghost use Rattle.course.specs.Index.{Ready};
-ghost use Rattle.roll.specs.Roll.{lastOf};
 ghost use Rattle.ground.specs.Tests.{stepPhysicsOk, physicsOk, ballOk, densityOk, vecAbout, landingOk, inputTest, refusalOf, stepTest, impactTest};
 ghost use Rattle.ground.specs.Settle.{result, refusal as refusalR, conditionsOf, settleOf, terminationNumber};
 ghost use Rattle.ground.specs.Contracts.{settledBy};
@@ -10,7 +9,6 @@ use aero::BallModel;
 use look::Look;
 use look::Rect;
 use roll::Termination;
-use slide::Phase;
 use surface::BallState;
 use tally::Conditions;
 use tally::GroundPhysics;
@@ -269,16 +267,6 @@ pub struct StepOut {
     pub phase: u8,
 }
 
-fn phase_number(phase: Phase) -> u8
-    ensures { λ r. ⌜ r ≡ lastOf phase ⌝ }
-{
-    match phase {
-        Phase::Hop => 0,
-        Phase::Slide => 1,
-        Phase::Roll => 2,
-    }
-}
-
 fn step_refused(answer: u32, state: BallState) -> StepOut
     ensures { λ r. ⌜ r ≡ stepOut answer state 0 ⌝ }
 {
@@ -351,7 +339,7 @@ fn step_made(
     StepOut {
         answer: 0,
         state: b,
-        phase: phase_number(phase),
+        phase: roll::last_of(phase),
     }
 }
 

@@ -34,9 +34,9 @@ stepOn c g =
     let h = minOf c.physics.dt (c.«t_end» ⊖ g.state.time) in
     contactStepOf g.state g.«at» c.ball h c.physics.«stop_speed» c.physics.«roll_threshold»
 
--- `last_phase = Some(phase)`: 0 stands for None. A contact step is a slide or a roll.
+-- `last_phase = Some(phase)`: 0 stands for None
 unfoldable pub lastOf : Phase → ℕ
-lastOf Hop = 0
+lastOf Hop = 3
 lastOf Slide = 1
 lastOf InRoll = 2
 

@@ -29,7 +29,7 @@ pub struct Ending {
     pub state: BallState,
 }
 
-// What the ground loop carries from pass to pass. `last` is the phase of the last step: 0 before the first, else 1 slide, 2 roll.
+// What the ground loop carries from pass to pass. `last` is the phase of the last step: 0 before the first, else 1 slide, 2 roll, 3 hop.
 pub struct Roll {
     pub state: BallState,
     pub at: GroundSample,
@@ -68,11 +68,12 @@ fn step_on(c: Conditions, g: Roll) -> Stepped
     )
 }
 
-fn last_of(phase: Phase) -> u8
+// The phase as a number: 1 slide, 2 roll, 3 hop.
+pub fn last_of(phase: Phase) -> u8
     ensures { λ r. ⌜ r ≡ lastOf phase ⌝ }
 {
     match phase {
-        Phase::Hop => 0,
+        Phase::Hop => 3,
         Phase::Slide => 1,
         Phase::Roll => 2,
     }
