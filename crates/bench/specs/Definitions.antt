@@ -25,7 +25,9 @@ use Rattle.tally.specs.Language.{_>>=_, when, vecOk, stateOk, countStep, look, 
 use Rattle.arrival.specs.Arrival.{arcOf, clearance, clearanceAt, advanced, atStart, subStep, crossingFrom, firstCrossing, endValue, guessIn, endingAt, crossingTime, placed, hopArrival}
 use Rattle.hop.specs.Hop.{stepArc, stepEnd, hopNext, hopStep, hopFrom, hop}
 use Rattle.roll.specs.Roll.{stepOn, lastOf, pointDue, heldOf, putDown, groundStep}
-use Rattle.train.specs.Train.{lastPhase, timeUp, lastImpact, strike, rebounds, diesOut, fly, dropped, drop, groundFrom, ground, toGround, trainFrom, train}
+use Rattle.ground_phase.specs.GroundPhase.{lastPhase, timeUp, groundFrom, ground}
+use Rattle.strike.specs.Strike.{strike, rebounds, diesOut, fly, dropped, drop}
+use Rattle.train.specs.Train.{lastImpact, toGround, trainFrom, train}
 use Rattle.ground.specs.Tests.{stepPhysicsOk, physicsOk, ballOk, densityOk, vecAbout, landingOk, wholes, inputTest, refusalOf}
 use Rattle.ground.specs.Settle.{reportOf, conditionsOf, runOf, settleOf, looksOf}
 use Rattle.input.specs.Input.{realAt, vecAt, physicsAt, ballAt, landingAt, settleInputOf}

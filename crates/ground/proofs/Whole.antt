@@ -17,10 +17,11 @@ use Rattle.course.specs.Sheet.{answerOf, courseOf}
 use Rattle.records.specs.Records.{Clean, recs, shown, zeroed}
 use Rattle.records.proofs.Laws.{shows, clean-zeroed, zeroed-length, recs-length}
 use Rattle.tally.specs.Language.{Ran, ran, Log, Outcome, if_then_else_}
-use Rattle.tally.specs.Contracts.{logOf, Grown}
+use Rattle.tally.specs.Contracts.{logOf, Grown, lent}
 use Rattle.tally.specs.declared.GroundPhysics.{GroundPhysics}
 use Rattle.tally.specs.declared.Conditions.{Conditions}
-use Rattle.train.specs.Contracts.{lent, endedBy, TrainRuns}
+use Rattle.ground_phase.specs.Contracts.{endedBy}
+use Rattle.train.specs.Contracts.{TrainRuns}
 use Rattle.train.specs.declared.RunOut.{RunOut}
 use Rattle.ground.specs.Tests.{wholes, inputTest, refusalOf, stepTest, impactTest, stepPhysicsOk, ballOk, landingOk}
 use Rattle.ground.specs.Settle.{result, reportOf, conditionsOf, runOf, settleOf}

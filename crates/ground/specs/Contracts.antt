@@ -1,5 +1,5 @@
 -- What the code makes of a run.
-use Rattle.train.specs.Contracts.{endedBy}
+use Rattle.ground_phase.specs.Contracts.{endedBy}
 use Rattle.train.specs.declared.RunOut.{RunOut}
 use Rattle.ground.specs.Settle.{answerBy, howBy, restBy}
 use Rattle.ground.specs.declared.Settled.{Settled}

@@ -42,10 +42,12 @@ use Rattle.hop.specs.declared.Way.the-variants.{Arrived, Late}
 use Rattle.roll.specs.Roll.{groundStep, heldOf, stepOn}
 use Rattle.roll.specs.declared.Roll.{Roll}
 use Rattle.roll.specs.declared.Ending.{Ending}
-use Rattle.train.specs.Train.{timeUp, lastImpact, strike, rebounds, diesOut, fly, drop, groundFrom, ground, toGround, trainFrom, train}
-use Rattle.train.specs.declared.Struck.{Struck}
-use Rattle.train.specs.declared.Flown.{Flown}
-use Rattle.train.specs.declared.Flown.the-variants.{Hop, Ground}
+use Rattle.ground_phase.specs.GroundPhase.{timeUp, groundFrom, ground}
+use Rattle.strike.specs.Strike.{strike, rebounds, diesOut, fly, drop}
+use Rattle.strike.specs.declared.Struck.{Struck}
+use Rattle.strike.specs.declared.Flown.{Flown}
+use Rattle.strike.specs.declared.Flown.the-variants.{Hop, Ground}
+use Rattle.train.specs.Train.{lastImpact, toGround, trainFrom, train}
 use Rattle.ground.specs.Tests.{physicsOk, ballOk, densityOk, vecAbout, landingOk, wholes, inputTest, refusalOf}
 use Rattle.ground.specs.Settle.{answerBy, restBy, reportOf, conditionsOf, firstLog, runOf, settleOf}
 use Rattle.ground.specs.Samples.{Sampled, sampled, number-finite}

@@ -6,13 +6,13 @@ ghost use Rattle.ground.specs.Settle.{result, refusal as refusalR, condi
 ghost use Rattle.ground.specs.Contracts.{settledBy};
 ghost use Rattle.ground.specs.Step.{stepOut, stepMade, stepOf, impactOut, impactMade, impactAnswer};
 use aero::BallModel;
+use ground_phase::RunEnd;
 use look::Look;
 use look::Rect;
 use roll::Termination;
 use surface::BallState;
 use tally::Conditions;
 use tally::GroundPhysics;
-use train::RunEnd;
 use train::RunOut;
 use vector::DVec3;
 

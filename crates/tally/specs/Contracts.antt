@@ -66,3 +66,13 @@ pub record Passes {A : Type 0} (o : Oracle) (m : M A) (t : Tally) (l : List Floa
   pub same : (k : Lent) → did (ran x (logOf k (length l / 11) t' l')) (t' .rect) ≡ exec o (t .rect) (m (logOf k (length l / 11) t l))
   pub count : t' .steps ≡ t .steps + 1
   pub grown : Grown 11 (t .points) l (t' .points) l'
+
+-- the contacts that a list stands for, with n of them pushed
+abbrev pub lent : ℕ → ℕ → List Float → Lent
+lent room n l = record { room = room; records = recs 20 n l }
+
+-- a call that also pushes contacts: from n contacts in lc to n' in mc
+pub record RunsBoth {A : Type 0} (o : Oracle) (m : M A) (n : ℕ) (t : Tally) (lc lp : List Float) (x : Outcome A) (n' : ℕ) (t' : Tally) (mc mp : List Float) : Type 0 where
+  pub same : did (ran x (logOf (lent (length lc / 20) n' mc) (length lp / 11) t' mp)) (t' .rect) ≡ exec o (t .rect) (m (logOf (lent (length lc / 20) n lc) (length lp / 11) t lp))
+  pub contacts : Grown 20 n lc n' mc
+  pub points : Grown 11 (t .points) lp (t' .points) mp

@@ -1,10 +1,6 @@
 -- The last impact: its contact and its point.
 use borrow.Author.Needs.{needs}
-use mathlib.Core.Path.{refl}
-use Rattle.look.specs.Tree.{exec}
-use Rattle.tally.specs.Lists.{stay, pushed-grown}
-use Rattle.tally.specs.Words.{contact-put, contact-full, point-put, point-full}
-use Rattle.train.specs.Train.{lastImpact}
+use Rattle.train.proofs.Turn.{stopped, last-full, last-no-point, last-ends}
 use Rattle.train.proofs.last_impact.Statement.{statement}
 use Rattle.train.proofs.last_impact.Tie as tie
 
@@ -18,9 +14,7 @@ same-length : tie.Need-same-length
 same-length c = c .before .before .before .before .before .push-contact .kept .0
 
 returns : tie.Need-returns
-unfolding lastImpact
-returns c = rw (c .stop .ensures, rw (c .before .enum-told .given .1) at (c .before .before .before .before .before .push-contact .ensures .kept))
-    (λ o. record { same = contact-full _ _ _ _ _ _ _ _ (c .before .before .before .before .before .push-contact .ensures .same) (c .before .enum-told .given .1); contacts = stay _ _ _; points = stay _ _ _ })
+returns c = λ o. stopped (c .stop .ensures) (last-full o _ _ (c .before .before .before .before .before .push-contact .ensures) (c .before .enum-told .given .1))
 
 enum-known-point : tie.Need-enum-known-point
 enum-known-point c = search needs
@@ -35,13 +29,7 @@ same-length-3 : tie.Need-same-length-3
 same-length-3 c = c .before .before .before .before .before .push-point .kept .0
 
 returns-2 : tie.Need-returns-2
-unfolding lastImpact
-returns-2 c = rw (c .stop2 .ensures, rw (c .before .enum-told2 .given .1) at (c .before .before .before .before .before .push-point .ensures .kept))
-    (λ o. record {
-      same = contact-put _ _ _ _ _ _ _ _ (c .before .before .before .before .before .before .before .before .before .before .before .before .push-contact .ensures .same) (c .before .before .before .before .before .before .before .before .push .given .1) (point-full _ _ _ _ _ _ _ (c .before .before .before .before .before .push-point .ensures .same) (c .before .enum-told2 .given .1));
-      contacts = pushed-grown _ _ _ _ _ (rw (c .before .before .before .before .before .before .before .before .push .given .1) at (c .before .before .before .before .before .before .before .before .before .before .before .before .push-contact .ensures .kept));
-      points = stay _ _ _;
-    })
+returns-2 c = λ o. stopped (c .stop2 .ensures) (last-no-point o _ _ (c .before .before .before .before .before .before .before .before .before .before .before .before .push-contact .ensures) (c .before .before .before .before .before .before .before .before .push .given .1) (c .before .before .before .before .before .push-point .ensures) (c .before .enum-told2 .given .1))
 
 same-length-4 : tie.Need-same-length-4
 same-length-4 c = c .before .before .before .before .before .before .before .before .before .before .before .before .before .push-contact .kept .0
@@ -50,13 +38,7 @@ same-length-5 : tie.Need-same-length-5
 same-length-5 c = c .before .before .before .before .before .before .push-point .kept .0
 
 returns-3 : tie.Need-returns-3
-unfolding lastImpact exec
-returns-3 c = rw (c .counted .ensures)
-    (λ o. record {
-      same = contact-put _ _ _ _ _ _ _ _ (c .before .before .before .before .before .before .before .before .before .before .before .before .before .push-contact .ensures .same) (c .before .before .before .before .before .before .before .before .before .push .given .1) (point-put _ _ _ _ _ _ _ (c .before .before .before .before .before .before .push-point .ensures .same) (c .before .before .point .given .1) refl);
-      contacts = pushed-grown _ _ _ _ _ (rw (c .before .before .before .before .before .before .before .before .before .push .given .1) at (c .before .before .before .before .before .before .before .before .before .before .before .before .before .push-contact .ensures .kept));
-      points = pushed-grown _ _ _ _ _ (rw (c .before .before .point .given .1) at (c .before .before .before .before .before .before .push-point .ensures .kept));
-    })
+returns-3 c = λ o. last-ends o _ _ (c .before .before .before .before .before .before .before .before .before .before .before .before .before .push-contact .ensures) (c .before .before .before .before .before .before .before .before .before .push .given .1) (c .before .before .before .before .before .before .push-point .ensures) (c .before .before .point .given .1) (c .counted .ensures)
 
 pub last-impact-spec : {M : Type 1} → statement M
 last-impact-spec =

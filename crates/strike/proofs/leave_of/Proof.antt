@@ -1,7 +1,7 @@
 -- The state that slides or rolls away.
-use Rattle.train.specs.Train.{dropped}
-use Rattle.train.proofs.leave_of.Statement.{statement}
-use Rattle.train.proofs.leave_of.Tie as tie
+use Rattle.strike.specs.Strike.{dropped}
+use Rattle.strike.proofs.leave_of.Statement.{statement}
+use Rattle.strike.proofs.leave_of.Tie as tie
 
 returns : tie.Need-returns
 unfolding dropped

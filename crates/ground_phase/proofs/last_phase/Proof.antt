@@ -1,8 +1,8 @@
 -- The phase of the last step.
 use borrow.Author.Tests.{eq-eqb, ne-eqb}
-use Rattle.train.specs.Train.{lastPhase}
-use Rattle.train.proofs.last_phase.Statement.{statement}
-use Rattle.train.proofs.last_phase.Tie as tie
+use Rattle.ground_phase.specs.GroundPhase.{lastPhase}
+use Rattle.ground_phase.proofs.last_phase.Statement.{statement}
+use Rattle.ground_phase.proofs.last_phase.Tie as tie
 
 returns : tie.Need-returns
 unfolding lastPhase

@@ -1,8 +1,8 @@
 -- Whether the ball rebounds above the transition height.
 use lib.Ieee.{ofBits, round}
-use Rattle.train.specs.Train.{rebounds}
-use Rattle.train.proofs.rebounds.Statement.{statement}
-use Rattle.train.proofs.rebounds.Tie as tie
+use Rattle.strike.specs.Strike.{rebounds}
+use Rattle.strike.proofs.rebounds.Statement.{statement}
+use Rattle.strike.proofs.rebounds.Tie as tie
 
 returns : tie.Need-returns
 unfolding rebounds ofBits round

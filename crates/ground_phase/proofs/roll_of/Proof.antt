@@ -1,7 +1,7 @@
 -- The first pass of the ground.
 use mathlib.Core.Path.{refl}
-use Rattle.train.proofs.roll_of.Statement.{statement}
-use Rattle.train.proofs.roll_of.Tie as tie
+use Rattle.ground_phase.proofs.roll_of.Statement.{statement}
+use Rattle.ground_phase.proofs.roll_of.Tie as tie
 
 returns : tie.Need-returns
 returns c = refl

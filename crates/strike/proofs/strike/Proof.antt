@@ -5,9 +5,9 @@ use borrow.Author.Tests.{not-true, not-false}
 use Rattle.look.specs.Tree.{exec}
 use Rattle.tally.specs.Lists.{stay}
 use Rattle.tally.specs.Words.{look-saw, look-off, test-ok, test-bad}
-use Rattle.train.specs.Train.{strike}
-use Rattle.train.proofs.strike.Statement.{statement}
-use Rattle.train.proofs.strike.Tie as tie
+use Rattle.strike.specs.Strike.{strike}
+use Rattle.strike.proofs.strike.Statement.{statement}
+use Rattle.strike.proofs.strike.Tie as tie
 
 look-at-requires : tie.Need-look-at-requires
 look-at-requires c κs = c .before .before .before .pre

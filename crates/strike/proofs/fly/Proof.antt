@@ -11,9 +11,9 @@ use Rattle.records.proofs.Laws.{recs-length, recs-zeroed, clean-zeroed}
 use Rattle.tally.specs.Lists.{stay, grow, pushed-grown}
 use Rattle.tally.specs.Words.{went, halted, marked, truncated, point-put, point-full}
 use Rattle.hop.specs.Contracts.{flewBy}
-use Rattle.train.specs.Train.{fly}
-use Rattle.train.proofs.fly.Statement.{statement}
-use Rattle.train.proofs.fly.Tie as tie
+use Rattle.strike.specs.Strike.{fly}
+use Rattle.strike.proofs.fly.Statement.{statement}
+use Rattle.strike.proofs.fly.Tie as tie
 
 returns : tie.Need-returns
 unfolding exec fly

@@ -4,9 +4,9 @@ use mathlib.Core.Path.{refl}
 use Rattle.look.specs.Tree.{exec}
 use Rattle.tally.specs.Lists.{stay, pushed-grown}
 use Rattle.tally.specs.Words.{point-put, point-full}
-use Rattle.train.specs.Train.{timeUp}
-use Rattle.train.proofs.time_up.Statement.{statement}
-use Rattle.train.proofs.time_up.Tie as tie
+use Rattle.ground_phase.specs.GroundPhase.{timeUp}
+use Rattle.ground_phase.proofs.time_up.Statement.{statement}
+use Rattle.ground_phase.proofs.time_up.Tie as tie
 
 enum-known-push : tie.Need-enum-known-push
 enum-known-push c = search needs

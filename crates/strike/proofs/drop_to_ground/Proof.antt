@@ -5,9 +5,9 @@ use borrow.Author.Tests.{not-true, not-false}
 use Rattle.look.specs.Tree.{exec}
 use Rattle.tally.specs.Lists.{stay, pushed-grown}
 use Rattle.tally.specs.Words.{test-ok, test-bad, contact-put, contact-full}
-use Rattle.train.specs.Train.{drop}
-use Rattle.train.proofs.drop_to_ground.Statement.{statement}
-use Rattle.train.proofs.drop_to_ground.Tie as tie
+use Rattle.strike.specs.Strike.{drop}
+use Rattle.strike.proofs.drop_to_ground.Statement.{statement}
+use Rattle.strike.proofs.drop_to_ground.Tie as tie
 
 returns : tie.Need-returns
 unfolding drop

@@ -1,7 +1,7 @@
 -- Whether the hops die out.
-use Rattle.train.specs.Train.{diesOut}
-use Rattle.train.proofs.dies_out.Statement.{statement}
-use Rattle.train.proofs.dies_out.Tie as tie
+use Rattle.strike.specs.Strike.{diesOut}
+use Rattle.strike.proofs.dies_out.Statement.{statement}
+use Rattle.strike.proofs.dies_out.Tie as tie
 
 returns : tie.Need-returns
 unfolding diesOut

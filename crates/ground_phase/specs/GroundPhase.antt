@@ -1,0 +1,36 @@
+-- The ground phase: the second loop of ground.rs, fn settle, with the tests and the count of steps that 01 adds; and the end at t_end.
+use Prim.Native.Nat.{ℕ}
+use mathlib.Core.Bool.{cond}
+use lib.Dec.{eqb}
+use Rattle.surface.specs.declared.BallState.{BallState}
+use Rattle.surface.specs.declared.GroundSample.{GroundSample}
+use Rattle.slide.specs.declared.Phase.{Phase}
+use Rattle.slide.specs.declared.Phase.the-variants.{Slide, Roll as InRoll}
+use Rattle.tally.specs.Times.{isLate}
+use Rattle.tally.specs.Language.{M, _>>=_, _>>_, pure, pushPoint, stepsLeft, loop}
+use Rattle.tally.specs.declared.Conditions.{Conditions}
+use Rattle.roll.specs.Roll.{ending, roll, groundStep}
+use Rattle.roll.specs.declared.Roll.{Roll}
+use Rattle.roll.specs.declared.Ending.{Ending}
+use Rattle.roll.specs.declared.Termination.the-variants.{MaxTime}
+
+-- `if last_phase is None then Phase::Roll`: `last_phase.unwrap_or(Phase::Roll)`
+unfoldable pub lastPhase : ℕ → Phase
+lastPhase last = cond (eqb last 1) Slide InRoll
+
+-- t_end: push the point, end with that state
+unfoldable pub timeUp : BallState → Phase → M Ending
+timeUp s phase = do
+  pushPoint s phase
+  pure (ending MaxTime s)
+
+module _ (c : Conditions) where
+  -- at most n steps
+  unfoldable pub groundFrom : ℕ → Roll → M Ending
+  groundFrom n = loop n (λ g. isLate g.state.time c.«t_end») (λ g. timeUp g.state (lastPhase g.last)) (groundStep c)
+
+  -- slide and roll, from the last sample on
+  unfoldable pub ground : BallState → GroundSample → M Ending
+  ground state s = do
+    n ← stepsLeft c
+    groundFrom n (roll state s state.time 0)

@@ -1,0 +1,2 @@
+pub mod GroundPhase
+pub mod Contracts

@@ -1,0 +1,261 @@
+// One impact of the train of settle of ground.rs: the strike, the rebound that is flown or not, the drop to the ground.
+ghost use mathlib.Core.Path.{_≡_};
+ghost use Rattle.course.specs.Sheet.{courseOf};
+ghost use Rattle.course.specs.Index.{Ready};
+ghost use Rattle.strike.specs.Strike.{rebounds as reboundsOf, diesOut, dropped};
+ghost use Rattle.strike.specs.Contracts.{Strikes, Flies, Drops};
+use aero::G;
+use hop::HopEnd;
+use hop::Way;
+use look::Look;
+use records::Pushed;
+use slide::Phase;
+use surface::BallState;
+use surface::GroundSample;
+use tally::Conditions;
+use tally::Tally;
+
+// ---- an impact
+
+// The ground's sample and the state after the impact there.
+pub struct Struck {
+    pub at: GroundSample,
+    pub out: BallState,
+}
+
+// An impact, or 22.
+pub enum StrikeEnd {
+    Hit(Struck),
+    Off,
+}
+
+pub struct StrikeOut {
+    pub end: StrikeEnd,
+    pub tally: Tally,
+}
+
+// Looks at the state's spot, and tests the state after the impact.
+pub fn strike(sheet: &[u8], index: &[u64], c: Conditions, state: BallState, t: Tally) -> StrikeOut
+    requires { ⌜ Ready (now sheet) (now index) ⌝ }
+    ensures { λ r. ⌜ Strikes (courseOf (now (sheet .entry))) c state t r ⌝ }
+{
+    let pos = state.pos;
+    let seen = course::look_at(sheet, index, t.rect, pos.x, pos.z);
+    let q = seen.rect;
+    let what = seen.what;
+    let t1 = tally::looked(t, q);
+    let Look::Saw(at) = what else {
+        return StrikeOut {
+            end: StrikeEnd::Off,
+            tally: t1,
+        };
+    };
+    let ball = c.ball;
+    let out = impact::impact(state, at, ball);
+    if !tally::state_ok(out) {
+        return StrikeOut {
+            end: StrikeEnd::Off,
+            tally: t1,
+        };
+    }
+    StrikeOut {
+        end: StrikeEnd::Hit(Struck { at, out }),
+        tally: tally::tested(t1, out),
+    }
+}
+
+// Whether the ball rebounds above the transition height.
+pub fn rebounds(c: Conditions, hit: Struck) -> bool
+    ensures { λ r. ⌜ r ≡ reboundsOf c hit ⌝ }
+{
+    let at = hit.at;
+    let out = hit.out;
+    let normal = at.normal;
+    let vel = out.vel;
+    let physics = c.physics;
+    let n = normal.normalize();
+    let v_n = vel.dot(n);
+    if v_n > 0.0 {
+        v_n * v_n >= 2.0 * G * n.y * physics.min_hop_height
+    } else {
+        false
+    }
+}
+
+// ---- a rebound: flown and kept, or not flown or discarded
+
+pub enum Flown {
+    Hop(Way),
+    Ground,
+}
+
+// A rebound, or a stop by a number, 21 to 23.
+pub enum FlyEnd {
+    Went(Flown),
+    Ended(u32),
+}
+
+pub struct FlyOut {
+    pub how: FlyEnd,
+    pub tally: Tally,
+}
+
+fn dies_out(c: Conditions, state: BallState, hit: Struck, arrival: BallState) -> bool
+    ensures { λ r. ⌜ r ≡ diesOut c state hit arrival ⌝ }
+{
+    let at = hit.at;
+    let out = hit.out;
+    let normal = at.normal;
+    let physics = c.physics;
+    let ball = c.ball;
+    contact::hops_die_out(
+        state,
+        out,
+        arrival,
+        normal.normalize(),
+        ball,
+        physics.min_hop_height,
+    )
+}
+
+pub fn fly(
+    sheet: &[u8],
+    index: &[u64],
+    points: &mut [f64],
+    c: Conditions,
+    hops: bool,
+    state: BallState,
+    hit: Struck,
+    t: Tally,
+) -> FlyOut
+    requires { ⌜ Ready (now sheet) (now index) ⌝ }
+    ensures { λ r. ⌜ Flies (courseOf (now (sheet .entry))) c hops state hit t (now (points .entry)) r (now (points .exit)) ⌝ }
+{
+    if !hops {
+        return FlyOut {
+            how: FlyEnd::Went(Flown::Ground),
+            tally: t,
+        };
+    }
+    let mark = t.points;
+    let out = hit.out;
+    let push = tally::push_point(points, mark, out, Phase::Hop);
+    let Pushed::Done(n) = push else {
+        return FlyOut {
+            how: FlyEnd::Ended(21),
+            tally: t,
+        };
+    };
+    let flight = hop::hop(sheet, index, points, c, out, tally::counted(t, n));
+    let after = flight.tally;
+    let end = flight.end;
+    match end {
+        HopEnd::Ended(a) => FlyOut {
+            how: FlyEnd::Ended(a),
+            tally: after,
+        },
+        HopEnd::Flew(way) => match way {
+            Way::Late(_) => FlyOut {
+                how: FlyEnd::Went(Flown::Hop(way)),
+                tally: after,
+            },
+            Way::Arrived(b) => {
+                if dies_out(c, state, hit, b) {
+                    FlyOut {
+                        how: FlyEnd::Went(Flown::Hop(way)),
+                        tally: after,
+                    }
+                } else {
+                    records::zero_from(points, mark * 11);
+                    FlyOut {
+                        how: FlyEnd::Went(Flown::Ground),
+                        tally: tally::counted(after, mark),
+                    }
+                }
+            }
+        },
+    }
+}
+
+// ---- the drop to the ground
+
+// The state that slides or rolls away, or a stop by a number, 20 or 22.
+pub enum DropEnd {
+    Left(BallState),
+    Ended(u32),
+}
+
+pub struct DropOut {
+    pub end: DropEnd,
+    pub contacts: usize,
+    pub tally: Tally,
+}
+
+// The normal velocity is dropped, and a slip at or below roll_threshold removed.
+fn leave_of(c: Conditions, hit: Struck) -> BallState
+    ensures { λ r. ⌜ r ≡ dropped c hit ⌝ }
+{
+    let at = hit.at;
+    let out = hit.out;
+    let normal = at.normal;
+    let v = out.vel;
+    let pos = out.pos;
+    let spin = out.spin;
+    let physics = c.physics;
+    let ball = c.ball;
+    let n = normal.normalize();
+    let radius = ball.radius_m();
+    let vel = v.sub(n.scale(v.dot(n)));
+    if contact::slip(vel, spin, n, radius).length() <= physics.roll_threshold {
+        let locked = contact::lock_rolling(vel, spin, n, radius, ball.inertia_factor);
+        let vel_out = locked.vel;
+        let spin_out = locked.spin;
+        return BallState {
+            time: out.time,
+            pos,
+            vel: vel_out,
+            spin: spin_out,
+        };
+    }
+    BallState {
+        time: out.time,
+        pos,
+        vel,
+        spin,
+    }
+}
+
+pub fn drop_to_ground(
+    contacts: &mut [f64],
+    c: Conditions,
+    n: usize,
+    state: BallState,
+    hit: Struck,
+    t: Tally,
+) -> DropOut
+    ensures { λ r. ⌜ Drops c n state hit t (now (contacts .entry)) r (now (contacts .exit)) ⌝ }
+{
+    let at = hit.at;
+    let leave = leave_of(c, hit);
+    if !tally::state_ok(leave) {
+        return DropOut {
+            end: DropEnd::Ended(22),
+            contacts: n,
+            tally: t,
+        };
+    }
+    let t1 = tally::tested(t, leave);
+    let push = tally::push_contact(contacts, n, state, at, leave);
+    let Pushed::Done(m) = push else {
+        return DropOut {
+            end: DropEnd::Ended(20),
+            contacts: n,
+            tally: t1,
+        };
+    };
+    DropOut {
+        end: DropEnd::Left(leave),
+        contacts: m,
+        tally: t1,
+    }
+}
