@@ -1,2 +1,3 @@
 pub mod Arrival
 pub mod Contracts
+pub mod RootSearch

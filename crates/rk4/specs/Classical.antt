@@ -1,7 +1,10 @@
 -- The classical fourth-order Runge-Kutta method, and that both steppers are it at exact arithmetic.
 -- Assumes nothing.
 use mathlib.Core.Path.{_≡_, refl}
-use Rattle.rk4.specs.Rk4.{Scalars, Space, movedIn, weightedIn, stepIn, stepStateIn}
+use lib.Ieee.{Float}
+use Rattle.vector.specs.declared.DVec3.{DVec3}
+use Rattle.rk4.specs.declared.Motion.{Motion}
+use Rattle.rk4.specs.Rk4.{Scalars, Space, movedIn, weightedIn, stepIn, stepStateIn, doubles, vectors, moved, addScaled, stepStateOf}
 
 -- The classical method for y' = f(y, t): with
 --   k1 = f(y, t), k2 = f(y + h/2·k1, t + h/2), k3 = f(y + h/2·k2, t + h/2), k4 = f(y + h·k3, t + h)
@@ -213,3 +216,26 @@ module _ {S X : Type 0} {sc : Scalars S} {e : Exact sc} {sp : Space S X} (l : Li
       let k3 = f (movedIn sp s k2 half) (sc .plus t half) in
       let k4 = f (movedIn sp s k3 h) (sc .plus t h) in
       l .symmetric (four s k1 k2 k3 k4 h)
+
+-- ---- the stepper in use, on motions of doubles
+
+-- A motion as its position, velocity and spin, and back.
+abbrev pub partsOf : Motion → DVec3 × (DVec3 × DVec3)
+partsOf m = (m .pos, (m .vel, m .spin))
+
+abbrev pub motionOf : DVec3 × (DVec3 × DVec3) → Motion
+motionOf y = record { pos = y .0; vel = y .1 .0; spin = y .1 .1 }
+
+abbrev pub motions : Space Float (DVec3 × (DVec3 × DVec3))
+motions = pairs vectors (pairs vectors vectors)
+
+-- `addScaled` is s + k · h of all three parts,
+pub addScaled-is-moved : (s rate : Motion) (h : Float) → partsOf (addScaled s rate h) ≡ movedIn motions (partsOf s) (partsOf rate) h
+unfolding addScaled moved movedIn
+addScaled-is-moved s rate h = refl
+
+-- so the stepper in use is the one that the theorem speaks of, at doubles.
+pub stepStateOf-is : (f : Motion → Float → Motion) (s : Motion) (t dt : Float)
+    → partsOf (stepStateOf f s t dt) ≡ stepStateIn doubles (movedIn motions) (λ y u. partsOf (f (motionOf y) u)) (partsOf s) t dt
+unfolding addScaled moved movedIn stepStateOf
+stepStateOf-is f s t dt = refl

@@ -6,7 +6,7 @@ use mathlib.Core.Bool.{Bool, true, false, cond}
 use mathlib.Core.List.{List, [], _∷_, _++_}
 use lib.Ieee.{Float, binary64, round, fits, lt, le, neg}
 use lib.Ieee.Fits.{cond-fits, add-fits, mul-fits}
-use lib.ListN.{length}
+use lib.ListN.{length, length-append}
 use lib.Dec.{T}
 use Rattle.number.specs.Ops.{_⊕_, _⊖_, _⊗_, _⊘_, dec}
 use Rattle.number.specs.Number.{absOf, withinOf, aboutOf}
@@ -20,6 +20,30 @@ use Rattle.search.specs.Search.{Does, rootFrom, findRoot, afterStep, pla
 
 -- ---- the number of evaluations
 
+-- what holds of a step that goes on and of a step that ends holds of every step
+by-step : (P : RootStep → Type 0) → ((s : Search) → P (Next s)) → ((x : Float) → P (Found x)) → (r : RootStep) → P r
+by-step P n f (Next s) = n s
+by-step P n f (Found x) = f x
+
+-- that at most n of something are counted on a way to evaluate: none in a value, and in one part after another those of both
+pub record Counts {m : Type 0 → Type 0} (d : Does m) : Type 1 where
+  pub atMost : {A : Type 0} → ℕ → m A → Type 0
+  pub of-pure : {A : Type 0} (n : ℕ) (a : A) → atMost n (d .pure a)
+  pub of-bind : {A B : Type 0} (n : ℕ) (x : m A) (k : A → m B) → atMost 1 x → ((a : A) → atMost n (k a)) → atMost (suc n) (d .bind x k)
+
+module _ {m : Type 0 → Type 0} {d : Does m} (c : Counts d) (f : Float → m Float) (once : (x : Float) → c .atMost 1 (f x)) where
+  count-from : (n : ℕ) (s : Search) → c .atMost n (rootFrom d f n s)
+  unfolding rootFrom
+  count-from zero s = c .of-pure 0 (s .bracket .hi)
+  count-from (suc n) s =
+      c .of-bind n (f (inBracket s)) (λ fx. afterStep d (rootFrom d f n) (narrowed s (inBracket s) fx)) (once (inBracket s))
+      (λ fx. by-step (λ r. c .atMost n (afterStep d (rootFrom d f n) r)) (count-from n) (c .of-pure n) (narrowed s (inBracket s) fx))
+
+  -- at most 200, where an evaluation counts for at most one
+  pub every-at-most-200 : (b : Bracket) (guess : Float) → c .atMost 200 (findRoot d f b guess)
+  unfolding findRoot
+  every-at-most-200 b guess = count-from 200 (start b guess)
+
 -- a value with the places evaluated on the way to it, in order
 abbrev pub Logged : Type 0 → Type 0
 Logged A = A × List Float
@@ -31,20 +55,13 @@ logging = record { pure = λ a. (a, []); bind = λ x k. (k (x .0) .0, x .1 ++ k 
 abbrev pub logged : (Float → Float) → Float → Logged Float
 logged f x = (f x, x ∷ [])
 
--- what holds of a step that goes on and of a step that ends holds of every step
-by-step : (P : RootStep → Type 0) → ((s : Search) → P (Next s)) → ((x : Float) → P (Found x)) → (r : RootStep) → P r
-by-step P n f (Next s) = n s
-by-step P n f (Found x) = f x
+logged-bind : {A B : Type 0} (n : ℕ) (x : Logged A) (k : A → Logged B) → length (x .1) ≤ 1 → ((a : A) → length (k a .1) ≤ n) → length (x .1 ++ k (x .0) .1) ≤ suc n
+logged-bind n x k h g = let r = g (x .0) in simp length-append (omega arith)
+
+abbrev counts-logged : Counts logging
+counts-logged = record { atMost = λ n x. length (x .1) ≤ n; of-pure = λ n a. omega arith; of-bind = logged-bind }
 
 module _ (f : Float → Float) where
-  count-from : (n : ℕ) (s : Search) → length (rootFrom logging (logged f) n s .1) ≤ n
-  unfolding rootFrom
-  count-from zero s = omega arith
-  count-from (suc n) s =
-      let l = by-step (λ r. length (afterStep logging (rootFrom logging (logged f) n) r .1) ≤ n) (count-from n) (λ x. omega arith)
-      (narrowed s (inBracket s) (f (inBracket s))) in
-      omega arith
-
   same-from : (n : ℕ) (s : Search) → rootFrom logging (logged f) n s .0 ≡ rootFrom plain f n s
   unfolding rootFrom
   same-from zero s = refl
@@ -54,8 +71,7 @@ module _ (f : Float → Float) where
 
   -- at most 200 evaluations
   pub at-most-200 : (b : Bracket) (guess : Float) → length (findRoot logging (logged f) b guess .1) ≤ 200
-  unfolding findRoot
-  at-most-200 b guess = count-from 200 (start b guess)
+  at-most-200 = every-at-most-200 counts-logged (logged f) (λ x. omega arith)
 
   -- and the answer is the one without the log
   pub same-answer : (b : Bracket) (guess : Float) → findRoot logging (logged f) b guess .0 ≡ findRoot plain f b guess

@@ -80,6 +80,7 @@ unfoldable pub rootFrom : {m : Type 0 → Type 0} → Does m → (Float → m Fl
 rootFrom d f zero s = d .pure (s .bracket .hi)
 rootFrom d f (suc n) s = d .bind (f (inBracket s)) (λ fx. afterStep d (rootFrom d f n) (narrowed s (inBracket s) fx))
 
+-- ground.rs, fn find_root: `for _ in 0..ROOT_MAX_ITER`. 01: "at most 200 evaluations"
 unfoldable pub findRoot : {m : Type 0 → Type 0} → Does m → (Float → m Float) → Bracket → Float → m Float
 findRoot d f b guess = rootFrom d f mostEvaluations (start b guess)
 

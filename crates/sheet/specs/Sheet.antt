@@ -38,6 +38,7 @@ real s i j = ofBits binary64 (field s i j)
 
 -- ---- the tests 1 to 3
 
+-- 01: "surface count S (1 to 16), surface offset (16), patch count P (0 to 512), patch offset (16 + 64S). Length is exactly 16 + 64(S+P)"
 unfoldable pub headerOk : List ℕ → Bool
 headerOk s =
     leb 1 (surfaces s) && leb (surfaces s) 16 && eqb (little 4 s 4) 16 && leb (patches s) 512
@@ -51,6 +52,7 @@ restitutionOk kind e = cond (eqb kind 0) (withinOf (dec 0 1) (dec 1 1) e) (eqb k
 unfoldable pub lawOk : ℕ → Float → Bool
 lawOk law v = cond (eqb law 0) true (cond (leb law 2) (withinOf (dec 1 100) (dec 1000 1) v) false)
 
+-- 01, 2: "kinds; e 0..1 (kind 0 only); mu_slide, mu_roll, compliance 0..10; v_ref 0.01..1000 (laws 1, 2 only); pivot 0..1"
 unfoldable pub surfaceOk : List ℕ → ℕ → Bool
 surfaceOk s i =
     restitutionOk (field s i 0) (real s i 1)
@@ -62,6 +64,7 @@ surfaceOk s i =
 unfoldable pub edgesOk : Float → Float → Bool
 edgesOk lo hi = aboutOf (dec 100000 1) lo && aboutOf (dec 100000 1) hi && le lo hi
 
+-- 01, 3: "edges ±100,000 with lo ≤ hi; h0 ±1000; a, b ±4; surface number < S"
 unfoldable pub patchOk : List ℕ → ℕ → Bool
 patchOk s i =
     edgesOk (real s i 0) (real s i 1) && edgesOk (real s i 2) (real s i 3) && aboutOf (dec 1000 1) (real s i 4)

@@ -153,6 +153,7 @@ rollStep q state locked w dt stopSpeed =
 
 -- ---- the step
 
+-- ground.rs, fn contact_step: the ball slides where `slip_speed > SLIP_EPS`, and rolls elsewhere
 unfoldable pub contactStepOf : BallState → GroundSample → BallModel → Float → Float → Float → Stepped
 contactStepOf state at ball dt stopSpeed rollThreshold =
     let n = vnormalize (at .normal) in

@@ -38,15 +38,18 @@ vdivs v s = vec (v .x ⊘ s) (v .y ⊘ s) (v .z ⊘ s)
 unfoldable pub vneg : DVec3 → DVec3
 vneg v = vec (neg (v .x)) (neg (v .y)) (neg (v .z))
 
+-- 01: "dot = (x×x' + y×y') + z×z'"
 unfoldable pub vdot : DVec3 → DVec3 → Float
 vdot v w = (v .x ⊗ w .x ⊕ v .y ⊗ w .y) ⊕ v .z ⊗ w .z
 
+-- 01: "cross x = y×z' − z×y', cyclic"
 unfoldable pub vcross : DVec3 → DVec3 → DVec3
 vcross v w = vec (v .y ⊗ w .z ⊖ v .z ⊗ w .y) (v .z ⊗ w .x ⊖ v .x ⊗ w .z) (v .x ⊗ w .y ⊖ v .y ⊗ w .x)
 
 unfoldable pub vlengthSquared : DVec3 → Float
 vlengthSquared v = vdot v v
 
+-- 01: "length = root(dot)"
 unfoldable pub vlength : DVec3 → Float
 vlength v = rootOf (vdot v v)
 
