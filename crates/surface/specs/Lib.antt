@@ -3,3 +3,4 @@ pub mod Surface
 pub mod Rows
 pub mod RoundingError
 pub mod PennerError
+pub mod Coefficient
