@@ -206,6 +206,20 @@ pub record Ends (b : Bracket) : Type 0 where
   pub hi-about : T (aboutOf largest (b .hi))
   pub order : T (le (b .lo) (b .hi))
 
+-- two doubles in order, from 0 to 1,000,000
+pub ends-from-0 : (b : Bracket) → T (fits binary64 (b .lo)) → T (fits binary64 (b .hi)) → T (le (dec 0 1) (b .lo)) → T (le (b .lo) (b .hi)) → T (le (b .hi) largest) → Ends b
+ends-from-0 b f g p q r =
+    let m = largest in
+    let n : T (le (neg m) (dec 0 1)) = unfold neg in unfold round in unfold le in tt in
+    let from = le-through (neg m) (dec 0 1) (b .lo) n p in
+    record {
+      lo-fits = f;
+      hi-fits = g;
+      lo-about = within-of (neg m) m (b .lo) from (le-through (b .lo) (b .hi) m q r);
+      hi-about = within-of (neg m) m (b .hi) (le-through (neg m) (b .lo) (b .hi) from q) r;
+      order = q;
+    }
+
 -- the answer lies within the bracket, whatever is evaluated, by whatever way, and whatever the guess
 pub every-within : {m : Type 0 → Type 0} {d : Does m} (e : Every d) (f : Float → m Float) (b : Bracket) (guess : Float)
     → Ends b → T (fits binary64 guess) → e .holds (Within (b .lo) (b .hi)) (findRoot d f b guess)

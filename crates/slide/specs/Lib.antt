@@ -1,2 +1,3 @@
 pub mod Slide
 pub mod ContactStep
+pub mod RootSearch

@@ -87,6 +87,13 @@ aboveOf p start t uHat₀ threshold tau = slipSpeed p (slideTurning p start t ta
 unfoldable pub guessOf : Float → Float → Float → Float
 guessOf over rate dt = cond (lt (dec 0 1) rate) (over ⊘ rate) dt
 
+-- fn slide, `tau`: where the slip speed, s₀ at 0 and sFull at dt, reaches the threshold
+abbrev pub timeAtThreshold : Patch → Motion → Float → Float → DVec3 → Float → Float → Float → Float
+timeAtThreshold p start t dt uHat₀ s₀ threshold sFull =
+    findRoot plain (aboveOf p start t uHat₀ threshold)
+    (record { lo = dec 0 1; «f_lo» = s₀ ⊖ threshold; hi = dt; «f_hi» = sFull ⊖ threshold })
+    (guessOf (s₀ ⊖ threshold) (slipRate p uHat₀) dt)
+
 -- fn slide, from `let tau` on: slide to tau with the direction turning, then finish along the direction there
 unfoldable pub finishFrom : Patch → Motion → Float → Float → DVec3 → Float → Slid
 finishFrom p start t dt uHat₀ tau =
@@ -100,10 +107,7 @@ slideToThreshold p start t dt uHat₀ s₀ threshold =
     let sFull = slipSpeed p full in
     cond (lt threshold sFull)
     (record { motion = full; time = dt; rolls = false })
-    (finishFrom p start t dt uHat₀
-    (findRoot plain (aboveOf p start t uHat₀ threshold)
-    (record { lo = dec 0 1; «f_lo» = s₀ ⊖ threshold; hi = dt; «f_hi» = sFull ⊖ threshold })
-    (guessOf (s₀ ⊖ threshold) (slipRate p uHat₀) dt)))
+    (finishFrom p start t dt uHat₀ (timeAtThreshold p start t dt uHat₀ s₀ threshold sFull))
 
 -- fn slide, on a slope and above the threshold: at the rate `fastest` the slip may not reach the threshold within dt
 unfoldable pub slideOnSlope : Patch → Motion → Float → Float → DVec3 → Float → Float → Slid
