@@ -85,7 +85,7 @@ pub record Order (Q : Entry → Type 0) (p : Entry → Entry → Bool) : Type 0 
   pub trans : (e f g : Entry) → Q e → Q f → Q g → p e f ≡ true → p f g ≡ true → p e g ≡ true
 
 module _ (P : Entry → Type 0) where
-  all-insert : (q : Entry → Bool) (e : Entry) (l : List Entry) → P e → All P l → All P (insert q e l)
+  pub all-insert : (q : Entry → Bool) (e : Entry) (l : List Entry) → P e → All P l → All P (insert q e l)
   unfolding insert All
   all-insert q e [] h a = (h, tt)
   all-insert q e (f ∷ l) h a = go (q f) (all-insert q e l h (a .1))
@@ -160,7 +160,7 @@ module _ (b : Board) (s : Sound b) (e : Entry) (room : b .count < 256) where
   unfolding withEntry
   with-listing = take-at _ _ (b .count + 1) longer
 
-  with-sound : Sound (withEntry b e)
+  pub with-sound : Sound (withEntry b e)
   unfolding withEntry
   with-sound = record { places = rw (length-append, longer, length-drop, s .places) (omega arith); most = omega arith }
 

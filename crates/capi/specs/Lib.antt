@@ -1,3 +1,4 @@
 pub mod Doors
 pub mod Boards
 pub mod Entered
+pub mod Chain

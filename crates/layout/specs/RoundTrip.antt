@@ -1,0 +1,247 @@
+-- A board as 771 doubles is read back as it was, for every board that the functions of crates/board make. Assumes nothing.
+use Prim.Native.Nat.{ℕ, zero, suc, _+_, _*_, _≤_, _<_}
+use native.Mathlib.Nat.{eq-or-lt-of-le}
+use native.Mathlib.Omega.{arith}
+use mathlib.Core.Path.{_≡_, refl, ap, _∙_, sym}
+use mathlib.Core.Logic.{_⊎_, inl, inr}
+use mathlib.Core.Bool.{Bool, true, false, not, _&&_, cond}
+use mathlib.Core.List.{List, [], _∷_, _++_}
+use lib.Dec.{T, leb, le→leb, nleb→lt}
+use lib.ListN.{length, take, drop, getD, replicate, length-append, length-replicate, List·getD-append}
+use lib.Seq.{getD-append-add, take-suc, take-all}
+use lib.IntN.{pos}
+use lib.Ieee.{Float, nan, inf, fin, binary64, lt, le, eq, neg, round, ofInt, inFloat, toUnsigned}
+use lib.Ieee.Bits.{is-true}
+use lib.Ieee.Exact.{HasValue}
+use lib.Ieee.Back.{round-whole, unsigned-back}
+use lib.Ieee.Order.{round-mono}
+use Rattle.number.specs.Ops.{dec}
+use Rattle.number.specs.Number.{aboutOf, withinOf, finiteOf}
+use Rattle.number.specs.Order.{eq-self, lt-le-trans, le-lt-trans}
+use Rattle.fields.specs.Fields.{wholeOf, doubleAt}
+use Rattle.board.specs.declared.Board.{Board}
+use Rattle.board.specs.declared.Entry.{Entry}
+use Rattle.board.specs.Board.{isBefore, listing, insert, holds, entry, emptyEntry, emptyBoard, answered, newOf, withEntry, enterOf}
+use Rattle.board.specs.Listing.{All, Sound, Near, all-insert, with-sound}
+use Rattle.layout.specs.Layout.{natOf, isWhole, entryOk, entryAt, entriesOk, entriesAt, boardOk, boardAt, entryFields, entriesFields, boardFields}
+
+-- ---- a whole number that a u32 holds, as a double and back
+module _ (n : ℕ) (h : n ≤ 4294967295) where
+  whole-finite : T (finiteOf (wholeOf n))
+  unfolding ofInt
+  whole-finite = go (round binary64 false n 1) (round-whole binary64 false n (omega arith))
+    where
+      go : (x : Float) → HasValue x false n 1 → T (finiteOf x)
+      go nan v = v
+      go (inf s) v = v
+      go (fin s m e) v = tt
+
+  above : T (lt (neg (dec 1 1)) (wholeOf n))
+  unfolding ofInt round neg lt
+  above = lt-le-trans (fin true 1 (pos 0)) (fin false 0 (pos 0)) (wholeOf n) tt tt whole-finite tt (round-mono binary64 0 1 n 1 (omega arith) (omega arith) (omega arith))
+
+  below : T (lt (wholeOf n) (dec 18446744073709551616 1))
+  unfolding ofInt round lt
+  below =
+      le-lt-trans (wholeOf n) (fin false 4294967295 (pos 0)) (dec 18446744073709551616 1) whole-finite tt tt
+      (round-mono binary64 n 1 4294967295 1 (omega arith) (omega arith) (omega arith))
+      tt
+
+  in-float : T (inFloat binary64 (pos n))
+  unfolding inFloat
+  in-float = le→leb n 9007199254740992 (omega arith)
+
+  cut : toUnsigned 64 (wholeOf n) ≡ n
+  cut = unsigned-back binary64 64 n in-float (omega arith) .1
+
+  pub nat-whole : natOf (wholeOf n) ≡ n
+  unfolding natOf
+  nat-whole = rw (is-true (lt (neg (dec 1 1)) (wholeOf n)) above, is-true (lt (wholeOf n) (dec 18446744073709551616 1)) below, cut, is-true (leb n 4294967295) (le→leb n 4294967295 h))
+
+  pub whole-is-whole : (m : ℕ) → n ≤ m → isWhole m (wholeOf n) ≡ true
+  unfolding isWhole
+  whole-is-whole m k = rw (nat-whole, is-true (eq (wholeOf n) (wholeOf n)) (eq-self (wholeOf n) whole-finite), is-true (leb n m) (le→leb n m k))
+
+-- ---- the doubles of an entry
+abbrev none : Entry
+none = entry 0 nan nan
+
+fields-length : (es : List Entry) (n : ℕ) → length (entriesFields es n) ≡ 3 * n
+unfolding entriesFields
+fields-length es zero = refl
+fields-length es (suc n) = length-append (entriesFields es n) (entryFields (getD es n none)) ∙ (let h = fields-length es n in omega arith)
+
+-- the double k of entry i
+field-at : (es : List Entry) (n i k : ℕ) → i < n → k < 3 → getD (entriesFields es n) (3 * i + k) nan ≡ getD (entryFields (getD es i none)) k nan
+unfolding entriesFields
+field-at es zero i k h l = absurd (omega arith)
+field-at es (suc n) i k h l = let m : i ≤ n = omega arith in go (λ j. field-at es n i k j l) (eq-or-lt-of-le m)
+  where
+    go : (i < n → getD (entriesFields es n) (3 * i + k) nan ≡ getD (entryFields (getD es i none)) k nan) → (i ≡ n) ⊎ (i < n)
+        → getD (entriesFields es n ++ entryFields (getD es n none)) (3 * i + k) nan ≡ getD (entryFields (getD es i none)) k nan
+    go f (inr j) = let e = fields-length es n in List·getD-append (entriesFields es n) (entryFields (getD es n none)) nan (3 * i + k) (omega arith) ∙ f j
+    go f (inl j) =
+        let e = fields-length es n in
+        let p : 3 * i + k ≡ length (entriesFields es n) + k = omega arith in
+        ap (λ (m : ℕ). getD (entriesFields es n ++ entryFields (getD es n none)) m nan) p
+        ∙ getD-append-add (entriesFields es n) (entryFields (getD es n none)) k nan
+        ∙ ap (λ (m : ℕ). getD (entryFields (getD es m none)) k nan) (sym j)
+
+module _ (b : Board) where
+  pub written-length : length (boardFields b) ≡ 771
+  unfolding boardFields
+  written-length = length-append (b .«pin_x» ∷ b .«pin_z» ∷ wholeOf (b .count) ∷ []) (entriesFields (b .entries) 256) ∙ ap (λ (n : ℕ). 3 + n) (fields-length (b .entries) 256)
+
+  double-at : (i k : ℕ) → i < 256 → k < 3 → doubleAt (boardFields b) (3 + (3 * i + k)) ≡ getD (entryFields (getD (b .entries) i none)) k nan
+  unfolding boardFields
+  double-at i k h l = getD-append-add (b .«pin_x» ∷ b .«pin_z» ∷ wholeOf (b .count) ∷ []) (entriesFields (b .entries) 256) (3 * i + k) nan ∙ field-at (b .entries) 256 i k h l
+
+  at : (i k j : ℕ) → i < 256 → k < 3 → j ≡ 3 + (3 * i + k) → doubleAt (boardFields b) j ≡ getD (entryFields (getD (b .entries) i none)) k nan
+  at i k j h l e = ap (doubleAt (boardFields b)) e ∙ double-at i k h l
+
+  module _ (i : ℕ) (h : i < 256) where
+    shot-at : doubleAt (boardFields b) (3 + 3 * i) ≡ wholeOf (getD (b .entries) i none .shot)
+    shot-at = at i 0 (3 + 3 * i) h (omega arith) (omega arith)
+
+    x-at : doubleAt (boardFields b) (4 + 3 * i) ≡ getD (b .entries) i none .x
+    x-at = at i 1 (4 + 3 * i) h (omega arith) (omega arith)
+
+    z-at : doubleAt (boardFields b) (5 + 3 * i) ≡ getD (b .entries) i none .z
+    z-at = at i 2 (5 + 3 * i) h (omega arith) (omega arith)
+
+-- ---- boards
+
+-- what holds of every board that calls made: a count of at most 256, a pin that passed test 9, and in each of the 256 places, those past the count
+-- too, a shot number that a u32 holds and a spot that passed test 10
+abbrev pub Kept : Entry → Type 0
+Kept e = (e .shot ≤ 4294967295) × Near e
+
+pub record Held (b : Board) : Type 0 where
+  pub sound : Sound b
+  pub pin-x : T (aboutOf (dec 100000 1) (b .«pin_x»))
+  pub pin-z : T (aboutOf (dec 100000 1) (b .«pin_z»))
+  pub kept : All Kept (b .entries)
+
+all-at : (P : Entry → Type 0) (l : List Entry) (i : ℕ) (d : Entry) → All P l → i < length l → P (getD l i d)
+unfolding All
+all-at P [] i d a h = absurd (omega arith)
+all-at P (e ∷ l) zero d a h = a .0
+all-at P (e ∷ l) (suc i) d a h = all-at P l i d (a .1) (omega arith)
+
+module _ (b : Board) (h : Held b) where
+  kept-at : (i : ℕ) → i < 256 → Kept (getD (b .entries) i none)
+  kept-at i l = all-at Kept (b .entries) i none (h .kept) (let s = h .sound .places in omega arith)
+
+  entry-back : (i : ℕ) → i < 256 → entryAt (boardFields b) i ≡ getD (b .entries) i none
+  unfolding entryAt
+  entry-back i l = rw (shot-at b i l, x-at b i l, z-at b i l, nat-whole _ (kept-at i l .0))
+
+  entry-passes : (i : ℕ) → i < 256 → entryOk (boardFields b) i ≡ true
+  unfolding entryOk
+  entry-passes i l =
+      let k = kept-at i l in
+      let e = getD (b .entries) i none in
+      rw (shot-at b i l, x-at b i l, z-at b i l, whole-is-whole (e .shot) (k .0) 4294967295 (k .0), is-true (aboutOf (dec 1000000 1) (e .x)) (k .1 .0), is-true (aboutOf (dec 1000000 1) (e .z)) (k .1 .1))
+
+  entries-back : (n : ℕ) → n ≤ 256 → entriesAt (boardFields b) n ≡ take n (b .entries)
+  unfolding entriesAt
+  entries-back zero l = refl
+  entries-back (suc n) l =
+      let s = h .sound .places in
+      rw (entries-back n (omega arith), entry-back n (omega arith)) (sym (take-suc (b .entries) n none (omega arith)))
+
+  entries-pass : (n : ℕ) → n ≤ 256 → entriesOk (boardFields b) n ≡ true
+  unfolding entriesOk
+  entries-pass zero l = refl
+  entries-pass (suc n) l = rw (entries-pass n (omega arith), entry-passes n (omega arith))
+
+  -- the doubles of such a board are a board's
+  pub written-ok : boardOk (boardFields b) ≡ true
+  unfolding boardOk boardFields
+  written-ok =
+      let m = h .sound .most in
+      rw (is-true (aboutOf (dec 100000 1) (b .«pin_x»)) (h .pin-x), is-true (aboutOf (dec 100000 1) (b .«pin_z»)) (h .pin-z), whole-is-whole (b .count) (omega arith) 256 m, entries-pass 256 (omega arith))
+
+  -- and it is read back as it was
+  pub written-back : boardAt (boardFields b) ≡ b
+  unfolding boardAt boardFields
+  written-back =
+      let m = h .sound .most in
+      let s = h .sound .places in
+      rw (nat-whole (b .count) (omega arith), entries-back 256 (omega arith), take-all 256 (b .entries) (omega arith))
+
+-- ---- the board that `Board::new` gives is such a board, and so is every board that `Board::enter` gives from one
+module _ (P : Entry → Type 0) where
+  all-append : (l m : List Entry) → All P l → All P m → All P (l ++ m)
+  unfolding All
+  all-append [] m a c = c
+  all-append (e ∷ l) m a c = (a .0, all-append l m (a .1) c)
+
+  all-take : (n : ℕ) (l : List Entry) → All P l → All P (take n l)
+  unfolding All
+  all-take zero l a = tt
+  all-take (suc n) [] a = tt
+  all-take (suc n) (e ∷ l) a = (a .0, all-take n l (a .1))
+
+  all-drop : (n : ℕ) (l : List Entry) → All P l → All P (drop n l)
+  unfolding All
+  all-drop zero l a = a
+  all-drop (suc n) [] a = tt
+  all-drop (suc n) (e ∷ l) a = all-drop n l (a .1)
+
+  all-replicate : (n : ℕ) (e : Entry) → P e → All P (replicate n e)
+  unfolding All
+  all-replicate zero e h = tt
+  all-replicate (suc n) e h = (h, all-replicate n e h)
+
+empty-kept : Kept emptyEntry
+unfolding round neg le lt eq withinOf
+empty-kept = (omega arith, (tt, tt))
+
+empty-held : (px pz : Float) → T (aboutOf (dec 100000 1) px) → T (aboutOf (dec 100000 1) pz) → Held (emptyBoard px pz)
+empty-held px pz h k =
+    record {
+      sound = record { places = length-replicate {A = Entry} 256 emptyEntry; most = omega arith };
+      pin-x = h;
+      pin-z = k;
+      kept = all-replicate Kept 256 emptyEntry empty-kept;
+    }
+
+pin-of-0 : T (aboutOf (dec 100000 1) (dec 0 1))
+unfolding round neg le lt eq withinOf
+pin-of-0 = tt
+
+-- on either answer
+pub new-held : (px pz : Float) → Held (newOf px pz .board)
+unfolding newOf
+new-held px pz = go (aboutOf (dec 100000 1) px) (aboutOf (dec 100000 1) pz) (λ t. t) (λ t. t)
+  where
+    go : (p q : Bool) → (T p → T (aboutOf (dec 100000 1) px)) → (T q → T (aboutOf (dec 100000 1) pz)) → Held (cond (p && q) (answered 0 (emptyBoard px pz)) (answered 9 (emptyBoard (dec 0 1) (dec 0 1))) .board)
+    go true true f g = empty-held px pz (f tt) (g tt)
+    go true false f g = empty-held (dec 0 1) (dec 0 1) pin-of-0 pin-of-0
+    go false q f g = empty-held (dec 0 1) (dec 0 1) pin-of-0 pin-of-0
+
+with-held : (b : Board) (e : Entry) → b .count < 256 → Kept e → Held b → Held (withEntry b e)
+unfolding withEntry
+with-held b e room k h =
+    record {
+      sound = with-sound b (h .sound) e room;
+      pin-x = h .pin-x;
+      pin-z = h .pin-z;
+      kept =
+          all-append Kept _ _ (all-insert Kept (isBefore (b .«pin_x») (b .«pin_z») e) e (listing b) k (all-take Kept (b .count) (b .entries) (h .kept)))
+          (all-drop Kept (b .count + 1) (b .entries) (h .kept));
+    }
+
+-- with a shot number that a u32 holds, on every answer
+pub enter-held : (b : Board) (n : ℕ) (x z : Float) → n ≤ 4294967295 → Held b → Held (enterOf b n x z .board)
+unfolding enterOf
+enter-held b n x z m h = go (aboutOf (dec 1000000 1) x) (aboutOf (dec 1000000 1) z) (holds n (listing b)) (leb 256 (b .count)) (λ t. t) (λ t. t) (nleb→lt 256 (b .count))
+  where
+    go : (p q y f : Bool) → (T p → T (aboutOf (dec 1000000 1) x)) → (T q → T (aboutOf (dec 1000000 1) z)) → (T (not f) → b .count < 256)
+        → Held (cond (p && q) (cond y (answered 25 b) (cond f (answered 24 b) (answered 0 (withEntry b (entry n x z))))) (answered 10 b) .board)
+    go true true true f i j k = h
+    go true true false true i j k = h
+    go true true false false i j k = with-held b (entry n x z) (k tt) (m, (i tt, j tt)) h
+    go true false y f i j k = h
+    go false q y f i j k = h
