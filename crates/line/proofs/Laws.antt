@@ -1,10 +1,10 @@
 -- Words written one after another. Assumes nothing.
 use Prim.Native.Nat.{ℕ, _+_, _≤_}
 use native.Mathlib.Omega.{arith}
-use mathlib.Core.Path.{refl, ap, _∙_}
+use mathlib.Core.Path.{_≡_, refl, ap, _∙_, sym}
 use mathlib.Core.List.{List, _++_, append-assoc}
-use lib.ListN.{length, take, length-append}
-use lib.Seq.{paste, take-paste, take-length, length-paste}
+use lib.ListN.{length, take, drop, length-append}
+use lib.Seq.{paste, take-length, length-paste, length-take-le, take-at, drop-at, drop-drop}
 use Rattle.line.specs.Line.{Adds, Puts}
 
 -- one word
@@ -12,16 +12,37 @@ pub adds : (l : List ℕ) (o : ℕ) (t : List ℕ) → o + length t ≤ length l
 adds l o t h =
     record {
       next = refl;
-      same = take-paste l o t (length t) (omega arith) (omega arith) ∙ ap (λ (x : List ℕ). take o l ++ x) (take-length t);
+      same = rw take-length (append-assoc (take o l) t (drop (o + length t) l));
+      fits = h;
       long = length-paste l o t (length t) h (omega arith);
     }
+
+module _ {l m t : List ℕ} {a b : ℕ} (x : Adds l a t b m) where
+  head : length (take a l ++ t) ≡ b
+  head = length-append (take a l) t ∙ (let n = x .next in let f = x .fits in let k : a ≤ length l = omega arith in omega (arith, length-take-le a l k))
+
+  split : m ≡ (take a l ++ t) ++ drop b l
+  split = x .same ∙ sym (append-assoc (take a l) t (drop b l))
+
+  -- what stands up to the end of a word, and past it
+  up-to : take b m ≡ take a l ++ t
+  up-to = ap (take b) split ∙ take-at (take a l ++ t) (drop b l) b head
+
+  past : (c k : ℕ) → c ≡ b + k → drop c m ≡ drop c l
+  past c k e =
+      ap (λ (n : ℕ). drop n m) e
+      ∙ sym (drop-drop k b m)
+      ∙ ap (drop k) (ap (drop b) split ∙ drop-at (take a l ++ t) (drop b l) b head)
+      ∙ drop-drop k b l
+      ∙ ap (λ (n : ℕ). drop n l) (sym e)
 
 -- a word, then another
 pub then : {l m n t u : List ℕ} {a b c : ℕ} → Adds l a t b m → Adds m b u c n → Adds l a (t ++ u) c n
 then {l} {m} {n} {t} {u} {a} {b} {c} x y =
     record {
       next = y .next ∙ ap (λ (k : ℕ). k + length u) (x .next) ∙ (omega (arith, length-append t u));
-      same = y .same ∙ ap (λ (z : List ℕ). z ++ u) (x .same) ∙ append-assoc (take a l) t u;
+      same = y .same ∙ ap (λ (z : List ℕ). z ++ (u ++ drop c m)) (up-to x) ∙ ap (λ (z : List ℕ). (take a l ++ t) ++ (u ++ z)) (past x c (length u) (y .next)) ∙ simp append-assoc;
+      fits = let f = y .fits in let k = x .long in omega arith;
       long = y .long ∙ x .long;
     }
 

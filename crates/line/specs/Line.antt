@@ -4,7 +4,7 @@ use mathlib.Core.Path.{_≡_}
 use mathlib.Core.Bool.{_&&_, cond}
 use mathlib.Core.List.{List, [], _∷_, _++_}
 use lib.Dec.{leb, ltb}
-use lib.ListN.{length, take, replicate}
+use lib.ListN.{length, take, drop, replicate}
 use lib.Ieee.{Float}
 use Rattle.number.specs.Ops.{dec}
 use Rattle.ground.specs.declared.Settled.{Settled}
@@ -73,12 +73,25 @@ nought = dec 0 1
 unfoldable pub lineOf : List ℕ → List ℕ
 lineOf input = shownOf (settleInputOf input (replicate 1280 nought) (replicate 7040 nought) .settled)
 
+-- how many bytes were written, and the list as it is then
+pub record Wrote : Type 0 where
+  pub count : ℕ
+  pub bytes : List ℕ
+
+abbrev pub wrote : ℕ → List ℕ → Wrote
+wrote n l = record { count = n; bytes = l }
+
+-- the line at the start of l, and what stands past it as it was
+unfoldable pub writtenLine : List ℕ → List ℕ → Wrote
+writtenLine input l = let t = lineOf input in wrote (length t) (t ++ drop (length t) l)
+
 -- ---- what inner functions give
 
 -- t is written from index o of l on: m is what stands then, and r the index after it
 pub record Adds (l : List ℕ) (o : ℕ) (t : List ℕ) (r : ℕ) (m : List ℕ) : Type 0 where
   pub next : r ≡ o + length t
-  pub same : take r m ≡ take o l ++ t
+  pub same : m ≡ take o l ++ (t ++ drop r l)
+  pub fits : r ≤ length l
   pub long : length m ≡ length l
 
 -- the same, with at most w bytes

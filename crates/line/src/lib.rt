@@ -2,9 +2,8 @@
 ghost use mathlib.Core.Path.{_≡_};
 ghost use Prim.Native.Nat.{_+_, _≤_};
 ghost use mathlib.Core.List.{_++_};
-ghost use lib.ListN.{length, take};
-ghost use Rattle.io.specs.Counts.{Counts};
-ghost use Rattle.line.specs.Line.{Adds, Puts, decimalOf, terminationOf, countsOf, shownOf, lineOf};
+ghost use lib.ListN.{length};
+ghost use Rattle.line.specs.Line.{Adds, Puts, decimalOf, terminationOf, countsOf, shownOf, wrote, writtenLine};
 use ground::Settled;
 use roll::Termination;
 
@@ -78,8 +77,7 @@ fn put_settled(out: &mut [u8], s: Settled) -> usize
 
 // Settles the input with 64 contacts and 640 points lent, and writes the line; the count is the line's length.
 pub fn write_line(input: &[u8], out: &mut [u8; 128]) -> usize
-    ensures { λ r. ⌜ Counts r (now (out .exit)) ⌝ }
-    ensures { λ r. ⌜ take r (now (out .exit)) ≡ lineOf (now (input .entry)) ⌝ }
+    ensures { λ r. ⌜ wrote r (now (out .exit)) ≡ writtenLine (now (input .entry)) (now (out .entry)) ⌝ }
 {
     let mut contacts = [0.0; 1280];
     let mut points = [0.0; 7040];

@@ -1,16 +1,15 @@
 -- `write_line` writes the line of the settle that the input asks for.
-use Prim.Native.Nat.{ℕ, _≤_}
-use native.Mathlib.Omega.{arith}
+use Prim.Native.Nat.{ℕ}
+use native.Mathlib.Nat.{zero-add}
 use mathlib.Core.Path.{_≡_, refl, ap, _∙_}
 use mathlib.Core.List.{List}
-use lib.ListN.{length, take, replicate}
+use lib.ListN.{replicate}
 use lib.Ieee.{Float, ofBits, round, binary64}
 use borrow.Author.Needs.{needs}
-use Rattle.io.specs.Counts.{Counts}
 use Rattle.ground.specs.Settle.{Result, result}
 use Rattle.ground.specs.declared.Settled.{Settled}
 use Rattle.input.specs.Input.{settleInputOf}
-use Rattle.line.specs.Line.{Puts, nought, shownOf, lineOf}
+use Rattle.line.specs.Line.{Puts, nought, shownOf, lineOf, wrote, writtenLine}
 use Rattle.line.proofs.write_line.Statement.{statement}
 use Rattle.line.proofs.write_line.Tie as tie
 
@@ -22,19 +21,14 @@ line-of : (input : List ℕ) {s : Settled} {cs ps : List Float} → result s cs 
 unfolding lineOf
 line-of input e = ap (λ (w : Result). shownOf (w .settled)) e ∙ rw zero
 
-written : (l m t : List ℕ) (r : ℕ) → 128 ≤ length l → Puts 128 l 0 t r m → Counts r m × (take r m ≡ t)
-written l m t r h x =
-    let e : take r m ≡ t = x .adds .same in
-    let n = x .adds .next in
-    let k = x .most in
-    let j = x .adds .long in
-    let s : length (take r m) ≡ length t = ap length e in
-    ((omega arith, omega arith), e)
+written : (input l m : List ℕ) (r : ℕ) {t : List ℕ} → t ≡ lineOf input → Puts 128 l 0 t r m → wrote r m ≡ writtenLine input l
+unfolding writtenLine
+written input l m r e x = rw (x .adds .same, x .adds .next, e, zero-add)
 
 returns : tie.Need-returns
 returns c =
-    let w = written _ _ _ _ (omega arith) (c .put-settled .ensures) in
-    (w .0, w .1 ∙ line-of (c .before .before .before .before .before .before .before .before .args .input .now) (c .before .before .before .before .settle-input .ensures))
+    let i = c .before .before .before .before .before .before .before .before .args .input .now in
+    written i _ _ _ (line-of i (c .before .before .before .before .settle-input .ensures)) (c .put-settled .ensures)
 
 pub write-line-spec : {M : Type 1} → statement M
 write-line-spec =
