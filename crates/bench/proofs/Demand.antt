@@ -78,9 +78,17 @@ refused-7 =
     demand-3 physicsNew 1000 tour (dec 1225 1000) tooFast sheetS sheetT (ones 20) (ones 22) (ones 20) (ones 22) accepted-s accepted-t refl refl
     (λ lo hi. (refl, refl)) (λ x z w. alike x z (not-ten x (w .1)))
 
+answer-7 : settleOf sheetS physicsNew 1000 tour (dec 1225 1000) tooFast (ones 20) (ones 22) .settled .answer ≡ 7
+unfolding definitions ones tooFast
+answer-7 = refl
+
 -- answer 8: a list that is not whole records
 refused-8 : settleOf sheetT physicsNew 1000 tour (dec 1225 1000) atZero (ones 21) (ones 22) ≡ settleOf sheetS physicsNew 1000 tour (dec 1225 1000) atZero (ones 21) (ones 22)
 unfolding definitions ones
 refused-8 =
     demand-3 physicsNew 1000 tour (dec 1225 1000) atZero sheetS sheetT (ones 21) (ones 22) (ones 21) (ones 22) accepted-s accepted-t refl refl
     (λ lo hi. (refl, refl)) (λ x z w. alike x z (not-ten x (w .1)))
+
+answer-8 : settleOf sheetS physicsNew 1000 tour (dec 1225 1000) atZero (ones 21) (ones 22) .settled .answer ≡ 8
+unfolding definitions ones
+answer-8 = refl

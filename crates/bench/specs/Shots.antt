@@ -1,5 +1,5 @@
 -- The starred shots of 01, "Bench shots", as one table: the lines that the program settle prints, computed from the definitions.
--- The starred numbers (root(4) = 2 and the others) are in Numbers.antt.
+-- With the starred numbers, root(4) = 2 and three more (Numbers.antt), they are `bench-table`.
 use Prim.Native.Nat.{ℕ}
 use Prim.Native.String.{String}
 use mathlib.Core.Path.{_≡_, refl}
@@ -7,7 +7,11 @@ use mathlib.Core.List.{List, [], _∷_}
 use lib.ListN.{set, take}
 use lib.Ieee.{nan, neg}
 use Rattle.number.specs.Ops.{dec}
+use Rattle.root.specs.Root.{rootOf}
+use Rattle.exponential.specs.Exp.{expOf}
+use Rattle.trigonometry.specs.Trig.{cosineOf}
 use Rattle.line.specs.Line.{lineOf}
+use Rattle.bench.specs.Numbers.{root-four, cosine-zero, exp-at-zero, exp-at-minus-701}
 use Rattle.bench.specs.Definitions.{definitions}
 use Rattle.bench.specs.Given.{bits, lineText, dtAt, maxTimeAt, maxImpactsAt, massAt, densityAt, velYAt, inputOf, fieldsS, sheetS}
 
@@ -51,3 +55,7 @@ Prints (s ∷ l) = (lineOf (s .input) ≡ s .line) × Prints l
 pub bench-shots : Prints table
 unfolding definitions
 bench-shots = (refl, (refl, (refl, (refl, (refl, (refl, (refl, (refl, tt))))))))
+
+-- the starred shots and the starred numbers
+pub bench-table : Prints table × (rootOf (dec 4 1) ≡ dec 2 1) × (cosineOf (dec 0 1) ≡ dec 1 1) × (expOf (dec 0 1) ≡ dec 1 1) × (expOf (neg (dec 701 1)) ≡ dec 0 1)
+bench-table = (bench-shots, root-four, cosine-zero, exp-at-zero, exp-at-minus-701)
