@@ -3,6 +3,7 @@
 
     build.py                      reference, unpatched, compare (mock libraries), make_replay
     build.py --libs DIR           compare linked with DIR/libcapi.a and DIR/libprobe.a
+    build.py --libs DIR --fuzz    also target/fuzz, for afl-fuzz of Debian's afl++
     build.py --plants [NAME ..]   builds one mock library per planted difference and shows each is found
 
 The sources are read from ../../shared/docs/src, from the environment's DIMPLE_SRC, or --src.

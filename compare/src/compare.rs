@@ -422,7 +422,7 @@ fn main() {
         Some("settle") => settle_mode(seed, value("--shots", 100_000), n),
         Some("doors") => doors_mode(seed, value("--cases", 200_000), n),
         Some("leaves") => leaves::run(seed, value("--share", 100), n, args.get(1).map_or("", |a| a.as_str())),
-        Some("replay") => replay_mode(args.get(1).map_or("data/replay.bin", |a| a.as_str())),
+        Some("replay") => replay_mode(args.get(1).map_or("../crates/replay/data/replay.bin", |a| a.as_str())),
         Some("speed") => speed::run(),
         Some("faults") => faults::run(),
         Some("unpatched") => unpatched::run(seed, value("--shots", 100_000), n),

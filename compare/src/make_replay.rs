@@ -1,4 +1,5 @@
-//! Writes replay.bin, a fixed list of inputs with the reference's answers, and looks.txt. See README.md.
+//! Writes replay.bin, a fixed list of inputs with the reference's answers, and looks.txt: to the folder given, or to the places in
+//! the repository. See README.md.
 
 mod shots;
 
@@ -68,7 +69,8 @@ fn printed(o: &Outcome) -> String {
     format!("answer {} {word} contacts {} points {} steps {}", o.answer, o.contacts.len(), o.points.len(), o.steps)
 }
 
-/// Lists of an entry are at most these, in doubles: the program's own lists.
+/// Whether the lists are no longer than the program's own, 1280 and 7040 doubles. A case of `number_cases` is kept without this
+/// test, and lends up to 7041.
 fn fits(c: &Case) -> bool {
     c.contacts <= 64 * CONTACT && c.points <= 640 * POINT
 }
@@ -141,8 +143,10 @@ fn named_shots() -> Vec<Shot> {
 }
 
 fn main() {
-    let dir = std::env::args().nth(1).unwrap_or_else(|| ".".into());
-    std::fs::write(format!("{dir}/looks.txt"), looks()).expect("looks.txt");
+    let given = std::env::args().nth(1);
+    let dir = given.as_deref().unwrap_or("../crates/replay/data");
+    let looks_dir = given.as_deref().unwrap_or("data");
+    std::fs::write(format!("{looks_dir}/looks.txt"), looks()).expect("looks.txt");
     let mut r = Rng(20_260);
     let mut entries: Vec<Entry> = Vec::new();
     let mut seen = vec![0u32; 128];
