@@ -1,5 +1,5 @@
-/* The doors of the crate capi, for C, Rust and Python. Link libcapi.a (rt staticlib capi, x86-64 Linux) or the shared object that
- * python/build makes of it. Lengths count doubles, or bytes for a sheet and an input. Buffers must not overlap. No door keeps a pointer.
+/* The doors of the crate capi, for C, Rust and Python. Link libcapi.a (rt staticlib capi, x86-64 Linux) or target/libdimple.so,
+ * which `make` builds of it. Lengths count doubles, or bytes for a sheet and an input. Buffers must not overlap. No door keeps a pointer.
  * Answers: 0, or a number of document 01 (README.md has the table). 100 and up are the doors' own. */
 #ifndef DIMPLE_H
 #define DIMPLE_H

@@ -5,7 +5,9 @@
     board = Board(pin=(3.0, 0.0)); board.enter(1, run)
 
 A number of document 01 other than 0 is raised as `Refused`, which says in words what is wrong; a run that was stopped (20 to 23) is raised
-as `Stopped`, with what it had got to in its `run`.
+as `Stopped`, with what it had got to in its `run`. What cannot be handed to the library at all is a plain `ValueError` (`Refused` is one
+too): an unknown kind or law, a surface number, max_impacts, step_limit or shot number that is no whole number in the range of its type, a
+field that is no number, and a run to enter whose answer is not 0.
 """
 import ctypes
 import os
@@ -78,15 +80,35 @@ TERMINATIONS = ("none", "rest", "time", "impacts")
 PHASES = ("hop", "slide", "roll")
 
 
+def _named(names, name, what):
+    if name not in names:
+        raise ValueError(f"{what} {name!r} is none of {', '.join(names)}")
+    return names[name]
+
+
+def _whole(n, bits, what):
+    if not isinstance(n, int) or not 0 <= n < 2 ** bits:
+        raise ValueError(f"{what} {n!r} is no whole number from 0 to 2^{bits} - 1")
+    return n
+
+
+def _pack(form, *fields):
+    try:
+        return struct.pack(form, *fields)
+    except (struct.error, OverflowError) as problem:
+        raise ValueError(f"a field is missing, or is no number that a double holds: {problem}") from None
+
+
 class Course:
     """A course sheet: its surfaces, and the patches, of which the first listed that holds a spot counts there."""
 
     def __init__(self, surfaces, patches=()):
         sheet = struct.pack("<4I", len(surfaces), 16, len(patches), 16 + 64 * len(surfaces))
         for s in surfaces:
-            sheet += struct.pack("<Q3dQ3d", KINDS[s.kind], s.e, s.mu_slide, s.mu_roll, LAWS[s.law], s.v_ref, s.compliance, s.pivot)
+            kind, law = _named(KINDS, s.kind, "the kind"), _named(LAWS, s.law, "the law")
+            sheet += _pack("<Q3dQ3d", kind, s.e, s.mu_slide, s.mu_roll, law, s.v_ref, s.compliance, s.pivot)
         for p in patches:
-            sheet += struct.pack("<7dQ", *p)
+            sheet += _pack("<7dQ", *p[:7], _whole(p[7], 64, "the surface number"))
         self.sheet = sheet
 
 
@@ -94,12 +116,14 @@ def _library():
     lib = ctypes.CDLL(LIBRARY)
     doubles, size = ctypes.POINTER(ctypes.c_double), ctypes.c_size_t
     lib.dimple_settle.argtypes = [ctypes.c_char_p, size, doubles, size, doubles, size, doubles, size]
+    lib.dimple_step.argtypes = [ctypes.c_char_p, size, doubles, size, doubles, size, doubles, size]
+    lib.dimple_impact.argtypes = [ctypes.c_char_p, size, doubles, size, doubles, size]
     lib.dimple_height.argtypes = [ctypes.c_char_p, size, ctypes.c_double, ctypes.c_double, doubles, size]
     lib.dimple_board_new.argtypes = [ctypes.c_double, ctypes.c_double, doubles, size]
     lib.dimple_board_enter.argtypes = [doubles, size, ctypes.c_uint32, ctypes.c_double, ctypes.c_double]
     lib.dimple_board_place.argtypes = [doubles, size, ctypes.c_uint64, doubles, size]
-    for door in (lib.dimple_settle, lib.dimple_height, lib.dimple_board_new, lib.dimple_board_enter, lib.dimple_board_place):
-        door.restype = ctypes.c_uint32
+    for door in ("settle", "step", "impact", "height", "board_new", "board_enter", "board_place"):
+        getattr(lib, f"dimple_{door}").restype = ctypes.c_uint32
     return lib
 
 
@@ -113,15 +137,21 @@ def _call(name, *args):
     return getattr(_lib, name)(*args)
 
 
-def _doubles(n):
-    return (ctypes.c_double * n)()
+def _doubles(n, *fields):
+    if fields and len(fields) != n:
+        raise ValueError(f"{len(fields)} fields, and not {n}")
+    try:
+        return (ctypes.c_double * n)(*fields)
+    except (TypeError, OverflowError) as problem:
+        raise ValueError(f"a field is no number that a double holds: {problem}") from None
 
 
 def settle_input(course, landing, physics=Physics(), ball=TOUR, air_density=1.225, step_limit=1_000_000):
     """The bytes that the program `settle` reads for this shot."""
     p = physics
-    head = struct.pack("<5d2Q", p.dt, p.stop_speed, p.roll_threshold, p.min_hop_height, p.max_time, p.max_impacts, step_limit)
-    body = struct.pack("<23d", *ball, air_density, landing.time, *landing.pos, *landing.vel, *landing.spin)
+    most, limit = _whole(p.max_impacts, 64, "max_impacts"), _whole(step_limit, 64, "step_limit")
+    head = _pack("<5d2Q", p.dt, p.stop_speed, p.roll_threshold, p.min_hop_height, p.max_time, most, limit)
+    body = _pack("<23d", *ball, air_density, landing.time, *landing.pos, *landing.vel, *landing.spin)
     return head + body + course.sheet
 
 
@@ -151,6 +181,25 @@ def _contact(d):
 
 def _point(d):
     return Point(*_state(d), PHASES[int(d[10])])
+
+
+def step(course, state, physics=Physics(), ball=TOUR):
+    """One ground step: the state after it, and its phase."""
+    p, b = _doubles(3, physics.dt, physics.stop_speed, physics.roll_threshold), _doubles(12, *ball)
+    s = _doubles(11, state.time, *state.pos, *state.vel, *state.spin, 0.0)
+    answer = _call("dimple_step", course.sheet, len(course.sheet), p, 3, b, 12, s, 11)
+    if answer:
+        raise Refused(answer)
+    return _state(s[:10]), PHASES[int(s[10])]
+
+
+def impact(course, state, ball=TOUR):
+    """The state after an impact on the ground under it."""
+    b, s = _doubles(12, *ball), _doubles(10, state.time, *state.pos, *state.vel, *state.spin)
+    answer = _call("dimple_impact", course.sheet, len(course.sheet), b, 12, s, 10)
+    if answer:
+        raise Refused(answer)
+    return _state(s[:10])
 
 
 def height(course, x, z):
@@ -183,13 +232,16 @@ class Board:
             raise Refused(answer)
 
     def enter(self, shot, run):
+        """Enters a run with answer 0 under a shot number from 0 to 2^32 - 1."""
+        if run.answer != 0:
+            raise ValueError(f"a run with answer {run.answer} is not to be entered")
         x, _, z = run.rest.pos
-        self._check(_call("dimple_board_enter", self._buffer, 771, shot, x, z))
+        self._check(_call("dimple_board_enter", self._buffer, 771, _whole(shot, 32, "the shot number"), x, z))
 
     def place(self, at):
         """The shot number at a place, from 0."""
         out = _doubles(1)
-        self._check(_call("dimple_board_place", self._buffer, 771, at, out, 1))
+        self._check(_call("dimple_board_place", self._buffer, 771, _whole(at, 64, "the place"), out, 1))
         return int(out[0])
 
     def __len__(self):
