@@ -111,7 +111,7 @@ fn insert_entry(
     insert_at(entries, count, place_of(entries, count, pin_x, pin_z, e), e)
 }
 
-// How many entries a board shows: a count that no call made may be above 256.
+// How many entries a board shows. A Board that these functions did not make may have a count above 256.
 fn shown(entries: [Entry; 256], count: usize) -> usize
     ensures { λ r. ⌜ Shows entries count r ⌝ }
 {

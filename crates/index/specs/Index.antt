@@ -1,4 +1,5 @@
--- The index of the patches: what inner functions promise each other, and what a look asks (`Ready`). No promise of an exported function says more.
+-- The index of the patches: what inner functions promise each other, and what a look asks (`Ready`). The contracts of
+-- `settle` and of the exported functions do not mention the index.
 --
 -- There are 16 columns along x and 16 rows along z, each between two of 17 cuts. The index is 290 words:
 --   128 d + 8 c + w   marks of column c (d = 0) or row c (d = 1): bit k is that of patch 64 w + k

@@ -82,7 +82,7 @@ when b m = if b then m else pure tt
 
 -- ---- test 22
 
--- 01: "finite, magnitude ≤ 1,000,000. Before each look x and z get the same test."
+-- 01, of each component: "finite, magnitude ≤ 1,000,000"
 unfoldable pub vecOk : DVec3 → Bool
 vecOk v = coordOk v.x && (coordOk v.y && coordOk v.z)
 
