@@ -15,56 +15,73 @@ use Rattle.look.specs.Agree.{All, AgreeOn, rectFrom, same-run, exec-is}
 abbrev pub Within : Rect → Float → Float → Type 0
 Within r x z = T (le (r .«x_lo») x) × T (le x (r .«x_hi»)) × T (le (r .«z_lo») z) × T (le z (r .«z_hi»))
 
+-- P of each edge; of a spot's x and z
+abbrev pub Edges : (Float → Type 0) → Rect → Type 0
+Edges P r = P (r .«x_lo») × P (r .«x_hi») × P (r .«z_lo») × P (r .«z_hi»)
+
+abbrev Both : (Float → Type 0) → Spot → Type 0
+Both P s = P (s .x) × P (s .z)
+
+abbrev Fin : Float → Type 0
+Fin x = T (finiteOf x)
+
 abbrev Finite : Rect → Type 0
-Finite r = T (finiteOf (r .«x_lo»)) × T (finiteOf (r .«x_hi»)) × T (finiteOf (r .«z_lo»)) × T (finiteOf (r .«z_hi»))
+Finite r = Edges Fin r
 
 abbrev FinSpot : Spot → Type 0
-FinSpot s = T (finiteOf (s .x)) × T (finiteOf (s .z))
+FinSpot s = Both Fin s
 
 -- ---- a spot that passed its test is finite
-and-parts : (a b : Bool) → T (a && b) → T a × T b
+pub and-parts : (a b : Bool) → T (a && b) → T a × T b
 and-parts true b t = (tt, t)
 and-parts false b t = absurd t
 
-coord-fin : (x : Float) → T (coordOk x) → T (finiteOf x)
+pub coord-fin : (x : Float) → T (coordOk x) → T (finiteOf x)
 unfolding coordOk withinOf le neg round
 coord-fin nan t = t
 coord-fin (inf true) t = t
 coord-fin (inf false) t = t
 coord-fin (fin s m e) t = tt
 
-spot-fin : (s : Spot) → T (spotOk (s .x) (s .z)) → FinSpot s
-unfolding spotOk
-spot-fin s t = let h = and-parts (coordOk (s .x)) (coordOk (s .z)) t in (coord-fin (s .x) (h .0), coord-fin (s .z) (h .1))
-
 note-all : (P : Spot → Type 0) (b : Bool) (s : Spot) (l : List Spot) → (T b → P s) → All P l → All P (note b s l)
 note-all P true s l f h = (f tt, h)
 note-all P false s l f h = h
 
+all-map : (P Q : Spot → Type 0) (l : List Spot) → ((s : Spot) → P s → Q s) → All P l → All Q l
+all-map P Q [] f h = tt
+all-map P Q (s ∷ l) f h = (f s (h .0), all-map P Q l f (h .1))
+
+abbrev Ok : Float → Type 0
+Ok x = T (coordOk x)
+
+looks-ok : {A : Type 0} (o : Oracle) (t : Tree A) → All (Both Ok) (looks o t)
+unfolding looks spotOk
+looks-ok o (done a) = tt
+looks-ok o (look x z c) = note-all (Both Ok) (spotOk x z) (record { x = x; z = z }) _ (and-parts (coordOk x) (coordOk z)) (looks-ok o (c (seen o x z)))
+looks-ok o (step t) = looks-ok o t
+
 looks-fin : {A : Type 0} (o : Oracle) (t : Tree A) → All FinSpot (looks o t)
-unfolding looks
-looks-fin o (done a) = tt
-looks-fin o (look x z c) = note-all FinSpot (spotOk x z) (record { x = x; z = z }) _ (spot-fin (record { x = x; z = z })) (looks-fin o (c (seen o x z)))
-looks-fin o (step t) = looks-fin o t
+looks-fin o t = all-map (Both Ok) FinSpot (looks o t) (λ s h. (coord-fin (s .x) (h .0), coord-fin (s .z) (h .1))) (looks-ok o t)
 
 -- ---- the lesser and the greater of two
-module _ (a x : Float) (i : T (finiteOf a)) (j : T (finiteOf x)) where
-  lesser-fin : T (finiteOf (lesser a x))
+module _ (P : Float → Type 0) (a x : Float) (i : P a) (j : P x) where
+  lesser-has : P (lesser a x)
   unfolding lesser
-  lesser-fin = go (lt x a)
+  lesser-has = go (lt x a)
     where
-      go : (b : Bool) → T (finiteOf (cond b x a))
+      go : (b : Bool) → P (cond b x a)
       go true = j
       go false = i
 
-  greater-fin : T (finiteOf (greater a x))
+  greater-has : P (greater a x)
   unfolding greater
-  greater-fin = go (lt a x)
+  greater-has = go (lt a x)
     where
-      go : (b : Bool) → T (finiteOf (cond b x a))
+      go : (b : Bool) → P (cond b x a)
       go true = j
       go false = i
 
+module _ (a x : Float) (i : T (finiteOf a)) (j : T (finiteOf x)) where
   lesser-le : T (le (lesser a x) a) × T (le (lesser a x) x)
   unfolding lesser
   lesser-le = go (lt x a) (lt-le x a) (nlt-le x a j i)
@@ -82,9 +99,9 @@ module _ (a x : Float) (i : T (finiteOf a)) (j : T (finiteOf x)) where
       go false f g = (le-self a i, g tt)
 
 -- ---- a rectangle that has been looked at once, widened
-step-fin : (r : Rect) (s : Spot) → Finite r → FinSpot s → Finite (widenIf true r (s .x) (s .z))
-step-fin r s f g =
-    (lesser-fin _ (s .x) (f .0) (g .0), greater-fin _ (s .x) (f .1) (g .0), lesser-fin _ (s .z) (f .2) (g .1), greater-fin _ (s .z) (f .3) (g .1))
+step-has : (P : Float → Type 0) (r : Rect) (s : Spot) → Edges P r → Both P s → Edges P (widenIf true r (s .x) (s .z))
+step-has P r s f g =
+    (lesser-has P _ (s .x) (f .0) (g .0), greater-has P _ (s .x) (f .1) (g .0), lesser-has P _ (s .z) (f .2) (g .1), greater-has P _ (s .z) (f .3) (g .1))
 
 step-new : (r : Rect) (s : Spot) → Finite r → FinSpot s → Within (widenIf true r (s .x) (s .z)) (s .x) (s .z)
 step-new r s f g =
@@ -101,14 +118,14 @@ step-old r s q f g w = (
 kept : (r : Rect) (l : List Spot) (q : Spot) → r .seen ≡ true → Finite r → All FinSpot l → Within r (q .x) (q .z) → Within (rectFrom r l) (q .x) (q .z)
 unfolding rectFrom widen
 kept r [] q e f h w = w
-kept r (s ∷ l) q e f h w = rw e (kept (widenIf true r (s .x) (s .z)) l q refl (step-fin r s f (h .0)) (h .1) (step-old r s q f (h .0) w))
+kept r (s ∷ l) q e f h w = rw e (kept (widenIf true r (s .x) (s .z)) l q refl (step-has Fin r s f (h .0)) (h .1) (step-old r s q f (h .0) w))
 
 all-in : (r : Rect) (l : List Spot) → r .seen ≡ true → Finite r → All FinSpot l → All (λ s. Within (rectFrom r l) (s .x) (s .z)) l
 unfolding rectFrom widen
 all-in r [] e f h = tt
 all-in r (s ∷ l) e f h =
     rw e
-    (let n = step-fin r s f (h .0) in
+    (let n = step-has Fin r s f (h .0) in
     (kept (widenIf true r (s .x) (s .z)) l s refl n (h .1) (step-new r s f (h .0)), all-in (widenIf true r (s .x) (s .z)) l refl n (h .1)))
 
 point : Spot → Rect
@@ -122,6 +139,16 @@ spots-within r (s ∷ l) e h =
     let f : Finite (point s) = (h .0 .0, h .0 .0, h .0 .1, h .0 .1) in
     let w : Within (point s) (s .x) (s .z) = (le-self _ (h .0 .0), le-self _ (h .0 .0), le-self _ (h .0 .1), le-self _ (h .0 .1)) in
     rw e (kept (point s) l s refl f (h .1) w, all-in (point s) l refl f (h .1))
+
+-- what holds of a rectangle's edges and of every x and z of the list holds of the last one's edges
+edges-have : (P : Float → Type 0) (r : Rect) (l : List Spot) → Edges P r → All (Both P) l → Edges P (rectFrom r l)
+unfolding rectFrom widen
+edges-have P r [] f h = f
+edges-have P r (s ∷ l) f h = edges-have P (widen r (s .x) (s .z)) l (go (r .seen)) (h .1)
+  where
+    go : (b : Bool) → Edges P (widenIf b r (s .x) (s .z))
+    go true = step-has P r s f (h .0)
+    go false = (h .0 .0, h .0 .0, h .0 .1, h .0 .1)
 
 -- ---- two courses that agree within the rectangle that the first run reports
 abbrev pub AgreeIn : Oracle → Oracle → Rect → Type 0
@@ -176,6 +203,10 @@ unseen : noRect .seen ≡ false
 unfolding noRect
 unseen = refl
 
+pub no-rect-ok : Edges (λ x. T (coordOk x)) noRect
+unfolding noRect coordOk withinOf le neg round
+no-rect-ok = (tt, tt, tt, tt)
+
 -- the rectangle is the one reckoned from the list of looks
 pub rect-of-looks : {A : Type 0} (o : Oracle) (t : Tree A) → exec o noRect t .rect ≡ rectFrom noRect (looks o t)
 rect-of-looks o t = rw (exec-is o noRect t)
@@ -193,6 +224,10 @@ least-rectangle o t q {s} {l} e h = rw (rect-of-looks o t, e) (least noRect q s 
 pub no-look-zero : {A : Type 0} (o : Oracle) (t : Tree A) → looks o t ≡ [] → exec o noRect t .rect ≡ noRect
 unfolding rectFrom
 no-look-zero o t e = rw (rect-of-looks o t, e)
+
+-- each edge passes the test of a spot: finite, of magnitude at most 1,000,000
+pub edges-ok : {A : Type 0} (o : Oracle) (t : Tree A) → Edges (λ x. T (coordOk x)) (exec o noRect t .rect)
+edges-ok o t = rw (rect-of-looks o t) (edges-have Ok noRect (looks o t) no-rect-ok (looks-ok o t))
 
 -- a second course that agrees with the first at every spot within the rectangle that the first run reports gives the same run
 pub agree-within : {A : Type 0} (o p : Oracle) (t : Tree A) → AgreeIn o p (exec o noRect t .rect)
