@@ -63,7 +63,7 @@ fn vec_ok(v: DVec3) -> bool
     ensures { λ r. ⌜ r ≡ vecOk v ⌝ }
 {
     if look::coord_ok(v.x) {
-        if look::coord_ok(v.x) {
+        if look::coord_ok(v.y) {
             look::coord_ok(v.z)
         } else {
             false
