@@ -1,7 +1,9 @@
 -- The path of a ball within one step of a hop, and the time of its fall (ground.rs).
 -- Assumes nothing.
-use lib.Ieee.{Float, le}
-use mathlib.Core.Bool.{cond, _&&_}
+use lib.Dec.{T}
+use lib.Ieee.{Float, binary64, fits, le}
+use lib.Ieee.Fits.{cond-fits, round-fits, div-fits}
+use mathlib.Core.Bool.{false, cond, _&&_}
 use Rattle.number.specs.Ops.{_⊕_, _⊖_, _⊗_, _⊘_, dec}
 use Rattle.number.specs.Number.{maxOf}
 use Rattle.root.specs.Root.{rootOf}
@@ -49,3 +51,15 @@ dropTime height vy =
     let disc = rootOf (vy ⊗ vy ⊕ dec 2 1 ⊗ gOf ⊗ above) in
     cond (le height (dec 0 1) && le vy (dec 0 1)) (dec 0 1)
     (cond (le (dec 0 1) vy) ((vy ⊕ disc) ⊘ gOf) (dec 2 1 ⊗ above ⊘ (disc ⊖ vy)))
+
+-- it is a double, or a NaN
+pub drop-fits : (height vy : Float) → T (fits binary64 (dropTime height vy))
+unfolding dropTime
+drop-fits height vy =
+    let above = maxOf height (dec 0 1) in
+    let disc = rootOf (vy ⊗ vy ⊕ dec 2 1 ⊗ gOf ⊗ above) in
+    let rising = le (dec 0 1) vy in
+    let up = (vy ⊕ disc) ⊘ gOf in
+    let down = dec 2 1 ⊗ above ⊘ (disc ⊖ vy) in
+    cond-fits binary64 (le height (dec 0 1) && le vy (dec 0 1)) (dec 0 1) (cond rising up down) (round-fits binary64 false 0 1)
+    (cond-fits binary64 rising up down (div-fits binary64 (vy ⊕ disc) gOf) (div-fits binary64 (dec 2 1 ⊗ above) (disc ⊖ vy)))

@@ -235,7 +235,7 @@ unfolding addScaled moved movedIn
 addScaled-is-moved s rate h = refl
 
 -- so the stepper in use is the one that the theorem speaks of, at doubles.
-pub stepStateOf-is : (f : Motion → Float → Motion) (s : Motion) (t dt : Float)
+pub stepStateOf-is-stepStateIn : (f : Motion → Float → Motion) (s : Motion) (t dt : Float)
     → partsOf (stepStateOf f s t dt) ≡ stepStateIn doubles (movedIn motions) (λ y u. partsOf (f (motionOf y) u)) (partsOf s) t dt
 unfolding addScaled moved movedIn stepStateOf
-stepStateOf-is f s t dt = refl
+stepStateOf-is-stepStateIn f s t dt = refl
