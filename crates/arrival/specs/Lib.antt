@@ -1,3 +1,5 @@
 pub mod Arrival
 pub mod Contracts
 pub mod RootSearch
+pub mod Eighths
+pub mod FirstCrossing
