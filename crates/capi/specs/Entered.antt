@@ -6,7 +6,6 @@ use mathlib.Core.List.{List}
 use lib.Dec.{T}
 use lib.Ieee.{Float}
 use lib.Ieee.Fits.{and-l, and-r}
-use lib.ListN.{length}
 use Rattle.number.specs.Ops.{dec}
 use Rattle.number.specs.Number.{aboutOf}
 use Rattle.surface.specs.declared.BallState.{BallState}
@@ -14,9 +13,9 @@ use Rattle.aero.specs.declared.BallModel.{BallModel}
 use Rattle.look.specs.Rect.{coordOk}
 use Rattle.tally.specs.Language.{vecOk, stateOk}
 use Rattle.tally.specs.declared.GroundPhysics.{GroundPhysics}
-use Rattle.ground.specs.Tests.{refusalOf}
 use Rattle.ground.specs.Settle.{settleOf}
-use Rattle.ground.specs.Finite.{settle-leaves}
+use Rattle.promises.specs.Finite.{settle-leaves}
+use Rattle.promises.specs.Promises.{answered}
 use Rattle.board.specs.declared.Board.{Board}
 use Rattle.board.specs.Board.{enterOf}
 use Rattle.board.specs.Listing.{never-10}
@@ -28,10 +27,11 @@ spot-about s h =
     let p = and-l (vecOk (s .pos)) (vecOk (s .vel) && vecOk (s .spin)) (and-r (coordOk (s .time)) (vecOk (s .pos) && (vecOk (s .vel) && vecOk (s .spin))) h) in
     (and-l (coordOk (s .pos .x)) (coordOk (s .pos .y) && coordOk (s .pos .z)) p, and-r (coordOk (s .pos .y)) (coordOk (s .pos .z)) (and-r (coordOk (s .pos .x)) (coordOk (s .pos .y) && coordOk (s .pos .z)) p))
 
--- whatever the board and the shot number, after any accepted call, a finished one among them
+-- 01: "Every run with answer 0 may be entered", whatever the board and the shot number
 pub may-be-entered : (sheet : List ℕ) (p : GroundPhysics) (limit : ℕ) (ball : BallModel) (density : Float) (landing : BallState) (cs ps : List Float)
-    → refusalOf sheet p limit ball density landing (length cs) (length ps) ≡ 0 → (b : Board) (n : ℕ)
+    → settleOf sheet p limit ball density landing cs ps .settled .answer ≡ 0 → (b : Board) (n : ℕ)
     → enterOf b n (settleOf sheet p limit ball density landing cs ps .settled .rest .pos .x) (settleOf sheet p limit ball density landing cs ps .settled .rest .pos .z) .answer ≡ 10 → ⊥
 may-be-entered sheet p limit ball density landing cs ps h b n =
-    let w = spot-about (settleOf sheet p limit ball density landing cs ps .settled .rest) (subst T (sym (settle-leaves sheet p limit ball density landing cs ps h .rest)) tt) in
+    let l = settle-leaves sheet p limit ball density landing cs ps (answered sheet p limit ball density landing cs ps h) in
+    let w = spot-about (settleOf sheet p limit ball density landing cs ps .settled .rest) (subst T (sym (l .rest)) tt) in
     never-10 b (record { shot = n; x = settleOf sheet p limit ball density landing cs ps .settled .rest .pos .x; z = settleOf sheet p limit ball density landing cs ps .settled .rest .pos .z }) (w .0) (w .1)

@@ -23,7 +23,7 @@ use Rattle.tally.specs.declared.Conditions.{Conditions}
 use Rattle.ground_phase.specs.Contracts.{endedBy}
 use Rattle.train.specs.Contracts.{TrainRuns}
 use Rattle.train.specs.declared.RunOut.{RunOut}
-use Rattle.ground.specs.Tests.{wholes, inputTest, refusalOf, stepTest, impactTest, stepPhysicsOk, ballOk, landingOk}
+use Rattle.ground.specs.Tests.{refusalOf, stepTest, impactTest, stepPhysicsOk, ballOk, landingOk}
 use Rattle.ground.specs.Settle.{result, reportOf, conditionsOf, runOf, settleOf}
 use Rattle.ground.specs.Contracts.{settledBy}
 use Rattle.surface.specs.declared.GroundSample.{GroundSample}
@@ -48,14 +48,6 @@ past a m h = go (eqb a 0) refl h
     go : (z : Bool) → eqb a 0 ≡ z → (if not z then a else m) ≡ 0 → a ≡ 0
     go true e h = eqb-true a 0 e
     go false e h = h
-
-pub settle-sheet : (s : List ℕ) (p : GroundPhysics) (limit : ℕ) (ball : BallModel) (density : Float) (landing : BallState) (nc np : ℕ) → refusalOf s p limit ball density landing nc np ≡ 0 → answerOf s ≡ 0
-unfolding refusalOf
-settle-sheet s p limit ball density landing nc np h = go (wholes nc np) h
-  where
-    go : (w : Bool) → (if not w then 8 else if not (eqb (answerOf s) 0) then answerOf s else inputTest p limit ball density landing) ≡ 0 → answerOf s ≡ 0
-    go true h = past _ _ h
-    go false h = absurd (omega (arith, h))
 
 pub step-sheet : (s : List ℕ) (dt stop roll : Float) (ball : BallModel) (state : BallState) → stepTest s dt stop roll ball state ≡ 0 → answerOf s ≡ 0
 unfolding stepTest

@@ -24,7 +24,7 @@ use Rattle.train.specs.Train.{train}
 use Rattle.ground.specs.Tests.{refusalOf}
 use Rattle.ground.specs.declared.Settled.{Settled}
 
--- 01: "If an answer is an enum, a definition gives this paper's number": 0 none, 1 rest, 2 time, 3 impacts
+-- 0 none, 1 rest, 2 time, 3 impacts: not 01's numbers, but those of the exported functions (reading-01, "The doors"; include/dimple.h)
 unfoldable pub terminationNumber : Termination → ℕ
 terminationNumber Nothing = 0
 terminationNumber Rest = 1

@@ -39,6 +39,7 @@ stepBy state (stops n) = stepOut n state 0
 unfoldable pub stepMade : List ℕ → Float → Float → Float → BallModel → BallState → StepOut
 stepMade sheet dt stop threshold ball state = stepBy state (exec (courseOf sheet) noRect (stepRun dt stop threshold ball state (firstLog state 0 0)) .value .outcome)
 
+-- 01: "with the same input tests for what they take"; reading-01: "tests 1 to 3, 4 (its dt, stop_speed and roll_threshold), 5, 7", then the step
 unfoldable pub stepOf : List ℕ → Float → Float → Float → BallModel → BallState → StepOut
 stepOf sheet dt stop threshold ball state =
     let n = stepTest sheet dt stop threshold ball state in
@@ -61,6 +62,7 @@ impactBy state (stops n) = impactOut n state
 unfoldable pub impactMade : List ℕ → BallModel → BallState → ImpactOut
 impactMade sheet ball state = impactBy state (exec (courseOf sheet) noRect (impactRun ball state (firstLog state 0 0)) .value .outcome)
 
+-- 01: "with the same input tests for what they take"; reading-01: "1 to 3, 5, 7, then 22"
 unfoldable pub impactAnswer : List ℕ → BallModel → BallState → ImpactOut
 impactAnswer sheet ball state =
     let n = impactTest sheet ball state in

@@ -3,7 +3,8 @@ use borrow.Author.Needs.{needs}
 use borrow.Author.Tests.{ne-eqb}
 use mathlib.Core.Path.{refl, _∙_, sym}
 use Rattle.ground.specs.Settle.{settleOf}
-use Rattle.ground.proofs.Whole.{settle-sheet, settled-whole}
+use Rattle.ground.specs.Passed.{settle-sheet}
+use Rattle.ground.proofs.Whole.{settled-whole}
 use Rattle.ground.proofs.settle.Statement.{statement}
 use Rattle.ground.proofs.settle.Tie as tie
 

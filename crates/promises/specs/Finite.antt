@@ -1,16 +1,17 @@
 -- What a settle leaves, under every answer: each pushed point is that of a state that passed test 22, each contact that of two such states (or the
 -- landing) and of a sample of the course, no more of either than the lists have room for, and no more steps than step_limit.
-use Prim.Native.Nat.{ℕ, zero, suc, _+_, _/_, _≤_, zero-le}
+use Prim.Native.Nat.{ℕ, zero, suc, _+_, _-_, _/_, _≤_, zero-le}
+use native.Mathlib.Nat.{zero-add}
 use native.Mathlib.Omega.{arith}
-use mathlib.Core.Path.{_≡_, refl, ap}
-use mathlib.Core.List.{List, [], _∷_}
-use lib.ListN.{length}
+use mathlib.Core.Path.{_≡_, refl, ap, _∙_}
+use mathlib.Core.List.{List, [], _∷_, _++_}
+use lib.ListN.{length, replicate}
 use mathlib.Core.Bool.{Bool, true, false, not, _&&_}
 use mathlib.Core.Option.{Option, none, some}
 use lib.Dec.{eqb, T}
-use lib.Ieee.{Float, le, eq, neg, round}
+use lib.Ieee.{Float, ofBits, le, eq, neg, round}
 use Rattle.number.specs.Number.{withinOf, aboutOf, finiteOf}
-use Rattle.number.specs.Order.{within-of, within-lo, within-hi, within-finite, le-through}
+use Rattle.number.specs.Order.{within-of, within-lo, within-hi, le-through}
 use Rattle.look.specs.Rect.{coordOk}
 use Rattle.number.specs.Ops.{dec}
 use Rattle.surface.specs.declared.BallState.{BallState}
@@ -23,8 +24,10 @@ use Rattle.aero.specs.declared.BallModel.{BallModel}
 use Rattle.look.specs.Rect.{noRect}
 use Rattle.look.specs.Agree.{exec-is}
 use Rattle.look.specs.Tree.{Tree, Oracle, Did, exec, run}
+use Rattle.look.specs.Resume.{steps as stepsOf}
+use Rattle.look.specs.Within.{and-parts, coord-fin}
 use Rattle.course.specs.Sheet.{Accepted, answerOf, courseOf}
-use Rattle.records.specs.Records.{Records, shown}
+use Rattle.records.specs.Records.{Records, null, flat, shown}
 use Rattle.tally.specs.declared.GroundPhysics.{GroundPhysics}
 use Rattle.search.specs.Search.{rootFrom, findRoot, afterStep, narrowed, inBracket}
 use Rattle.search.specs.declared.Bracket.{Bracket}
@@ -42,16 +45,26 @@ use Rattle.hop.specs.declared.Way.the-variants.{Arrived, Late}
 use Rattle.roll.specs.Roll.{groundStep, heldOf, stepOn}
 use Rattle.roll.specs.declared.Roll.{Roll}
 use Rattle.roll.specs.declared.Ending.{Ending}
+use Rattle.roll.specs.declared.Termination.{Termination}
+use Rattle.roll.specs.declared.Termination.the-variants.{Nothing, Rest, MaxTime, MaxImpacts}
 use Rattle.ground_phase.specs.GroundPhase.{timeUp, groundFrom, ground}
 use Rattle.strike.specs.Strike.{strike, rebounds, diesOut, fly, drop}
 use Rattle.strike.specs.declared.Struck.{Struck}
 use Rattle.strike.specs.declared.Flown.{Flown}
 use Rattle.strike.specs.declared.Flown.the-variants.{Hop, Ground}
 use Rattle.train.specs.Train.{lastImpact, toGround, trainFrom, train}
-use Rattle.ground.specs.Tests.{physicsOk, ballOk, densityOk, vecAbout, landingOk, wholes, inputTest, refusalOf}
-use Rattle.ground.specs.Settle.{answerBy, restBy, reportOf, conditionsOf, firstLog, runOf, settleOf}
-use Rattle.ground.specs.Samples.{Sampled, sampled, number-finite}
-use Rattle.ground.specs.Keeps.{Each, PointOf, ContactOf, After, SampleOf, Keeps, KeepsTo, Any, Ok, OnWith, keeps-bind, k-pure, k-if, k-when, k-look, k-test, k-count, k-mark, k-truncate, k-point, k-contact, k-loop, to, to-bind, to-if, to-left}
+use Rattle.ground.specs.Tests.{vecAbout, landingOk, refusalOf}
+use Rattle.ground.specs.Passed.{settle-landing}
+use Rattle.ground.specs.Settle.{answerBy, howBy, restBy, reportOf, conditionsOf, firstLog, runOf, settleOf}
+use Rattle.promises.specs.Samples.{Sampled, sampled, number-finite}
+use Rattle.promises.specs.Keeps.{Each, PointOf, ContactOf, After, Stop, SampleOf, Keeps, KeepsTo, Any, Ok, OnWith, keeps-bind, k-pure, k-if, k-when, k-look, k-test, k-count, k-mark, k-truncate, k-point, k-contact, k-loop, to, to-bind, to-if, to-left}
+
+-- the numbers that come with a termination: 0 where the run finished; 20 to 23, with none, where it stopped
+abbrev pub Answer : Termination → ℕ → Type 0
+Answer Nothing n = (20 ≤ n) × (n ≤ 23)
+Answer Rest n = n ≡ 0
+Answer MaxTime n = n ≡ 0
+Answer MaxImpacts n = n ≡ 0
 
 module _ (o : Oracle) (rc rp : ℕ) where
   abbrev K : {A : Type 0} → ℕ → (A → Type 0) → M A → Type 0
@@ -125,15 +138,15 @@ module _ (o : Oracle) (rc rp : ℕ) where
   RollOk g = Ok o rc rp (g .state)
 
   abbrev EndOk : Ending → Type 0
-  EndOk e = Ok o rc rp (e .state)
+  EndOk e = Ok o rc rp (e .state) × Answer (e .how) 0
 
   f-timeUp : (s : BallState) (phase : Phase) → Ok o rc rp s → K 0 EndOk (timeUp s phase)
   unfolding timeUp
-  f-timeUp s phase ok = keeps-bind o rc rp (k-point o rc rp s phase ok) (λ x q. k-pure o rc rp _ ok)
+  f-timeUp s phase ok = keeps-bind o rc rp (k-point o rc rp s phase ok) (λ x q. k-pure o rc rp _ (ok, refl))
 
   f-groundStep : (c : Conditions) (g : Roll) → RollOk g → K 1 (OnWith o rc rp RollOk EndOk) (groundStep c g)
   unfolding groundStep
-  f-groundStep c g ok = keeps-bind o rc rp (k-count o rc rp) (λ x q. keeps-bind o rc rp (k-when o rc rp _ (k-point o rc rp _ _ ok)) (λ y r. keeps-bind o rc rp (k-look o rc rp _ _) (λ under s. keeps-bind o rc rp (k-test o rc rp _) (λ b kb. k-if o rc rp (not (heldOf (stepOn c g) under)) (k-pure o rc rp _ kb) (keeps-bind o rc rp (k-point o rc rp b _ kb) (λ z t. k-pure o rc rp _ kb))))))
+  f-groundStep c g ok = keeps-bind o rc rp (k-count o rc rp) (λ x q. keeps-bind o rc rp (k-when o rc rp _ (k-point o rc rp _ _ ok)) (λ y r. keeps-bind o rc rp (k-look o rc rp _ _) (λ under s. keeps-bind o rc rp (k-test o rc rp _) (λ b kb. k-if o rc rp (not (heldOf (stepOn c g) under)) (k-pure o rc rp _ kb) (keeps-bind o rc rp (k-point o rc rp b _ kb) (λ z t. k-pure o rc rp _ (kb, refl)))))))
 
   -- ---- an impact
 
@@ -150,7 +163,7 @@ module _ (o : Oracle) (rc rp : ℕ) where
 
   f-lastImpact : (state : BallState) (hit : Struck) → Ok o rc rp state → StruckOk hit → K 0 EndOk (lastImpact state hit)
   unfolding lastImpact
-  f-lastImpact state hit ok h = keeps-bind o rc rp (k-contact o rc rp state _ _ ok (h .0) (h .1)) (λ x q. keeps-bind o rc rp (k-point o rc rp _ _ (h .1)) (λ y r. k-pure o rc rp _ (h .1)))
+  f-lastImpact state hit ok h = keeps-bind o rc rp (k-contact o rc rp state _ _ ok (h .0) (h .1)) (λ x q. keeps-bind o rc rp (k-point o rc rp _ _ (h .1)) (λ y r. k-pure o rc rp _ (h .1, refl)))
 
   module _ (limit : ℕ) (c : Conditions) (el : c .«step_limit» ≡ limit) where
     abbrev KT : {A : Type 0} → (A → Type 0) → M A → Type 0
@@ -198,10 +211,6 @@ module _ (o : Oracle) (rc rp : ℕ) where
 
 -- ---- the landing: 7 is narrower than test 22
 
-split : (a b : Bool) → T (a && b) → T a × T b
-split true b t = (tt, t)
-split false b t = absurd t
-
 both : (a b : Bool) → T a → T b → T (a && b)
 both true b s t = t
 both false b s t = absurd s
@@ -213,8 +222,8 @@ wider lo hi x l h t = within-of _ _ x (le-through _ lo x l (within-lo lo hi x t)
 wider-vec : (r : Float) (v : DVec3) → T (le (neg (dec 1000000 1)) (neg r)) → T (le r (dec 1000000 1)) → T (vecAbout r v) → T (vecOk v)
 unfolding vecAbout vecOk
 wider-vec r v l h t =
-    let a = split (aboutOf r (v .x) && aboutOf r (v .y)) (aboutOf r (v .z)) t in
-    let b = split (aboutOf r (v .x)) (aboutOf r (v .y)) (a .0) in
+    let a = and-parts (aboutOf r (v .x) && aboutOf r (v .y)) (aboutOf r (v .z)) t in
+    let b = and-parts (aboutOf r (v .x)) (aboutOf r (v .y)) (a .0) in
     both (coordOk (v .x)) (coordOk (v .y) && coordOk (v .z)) (wider _ _ _ l h (b .0)) (both (coordOk (v .y)) (coordOk (v .z)) (wider _ _ _ l h (b .1)) (wider _ _ _ l h (a .1)))
 
 landing-passes : (s : BallState) → T (landingOk s) → T (stateOk s)
@@ -223,9 +232,9 @@ landing-passes s t =
     let w = withinOf (dec 0 1) (dec 100000 1) (s .time) in
     let p = vecAbout (dec 100000 1) (s .pos) in
     let v = vecAbout (dec 200 1) (s .vel) in
-    let a = split (w && p && v) (vecAbout (dec 5000 1) (s .spin)) t in
-    let b = split (w && p) v (a .0) in
-    let d = split w p (b .0) in
+    let a = and-parts (w && p && v) (vecAbout (dec 5000 1) (s .spin)) t in
+    let b = and-parts (w && p) v (a .0) in
+    let d = and-parts w p (b .0) in
     both (coordOk (s .time)) (vecOk (s .pos) && (vecOk (s .vel) && vecOk (s .spin))) (wider (dec 0 1) (dec 100000 1) (s .time) tt tt (d .0))
     (both (vecOk (s .pos)) (vecOk (s .vel) && vecOk (s .spin)) (wider-vec (dec 100000 1) (s .pos) tt tt (d .1))
     (both (vecOk (s .vel)) (vecOk (s .spin)) (wider-vec (dec 200 1) (s .vel) tt tt (b .1)) (wider-vec (dec 5000 1) (s .spin) tt tt (a .1))))
@@ -235,22 +244,6 @@ landing-passes s t =
 passed : (b : Bool) → T b → b ≡ true
 passed true t = refl
 passed false t = absurd t
-
--- a call that passes every test passes 7
-accepted-landing : (s : List ℕ) (p : GroundPhysics) (limit : ℕ) (ball : BallModel) (density : Float) (landing : BallState) (nc np : ℕ)
-    → refusalOf s p limit ball density landing nc np ≡ 0 → landingOk landing ≡ true
-unfolding refusalOf inputTest
-accepted-landing s p limit ball density landing nc np h = go (wholes nc np) (eqb (answerOf s) 0) (physicsOk p limit) (ballOk ball) (densityOk density) (landingOk landing) refl h
-  where
-    go : (w e a b c d : Bool) → eqb (answerOf s) 0 ≡ e
-        → (if not w then 8 else if not e then answerOf s else if not a then 4 else if not b then 5 else if not c then 6 else if not d then 7 else 0) ≡ 0 → d ≡ true
-    go true true true true true true i h = refl
-    go true true true true true false i h = absurd (omega (arith, h))
-    go true true true true false d i h = absurd (omega (arith, h))
-    go true true true false c d i h = absurd (omega (arith, h))
-    go true true false b c d i h = absurd (omega (arith, h))
-    go true false a b c d i h = absurd (let j : true ≡ false = rw h at i in let z : _≡_ {A = ℕ} 0 1 = cc in omega arith)
-    go false e a b c d i h = absurd (omega (arith, h))
 
 module _ (sheet : List ℕ) (p : GroundPhysics) (limit : ℕ) (ball : BallModel) (density : Float) (landing : BallState) (cs ps : List Float) where
   pub record Leaves : Type 0 where
@@ -269,6 +262,9 @@ module _ (sheet : List ℕ) (p : GroundPhysics) (limit : ℕ) (ball : BallModel)
     pub steps : settleOf sheet p limit ball density landing cs ps .settled .steps ≤ limit
     -- 23 comes with step_limit steps made
     pub limit-reached : settleOf sheet p limit ball density landing cs ps .settled .answer ≡ 23 → settleOf sheet p limit ball density landing cs ps .settled .steps ≡ limit
+    -- the count is of the steps that the run made
+    pub made : settleOf sheet p limit ball density landing cs ps .settled .steps ≡ stepsOf (courseOf sheet) (runOf p limit ball density landing (length cs) (length ps))
+    pub answer : Answer (settleOf sheet p limit ball density landing cs ps .settled .termination) (settleOf sheet p limit ball density landing cs ps .settled .answer)
     -- the final state passes test 22
     pub rest : stateOk (settleOf sheet p limit ball density landing cs ps .settled .rest) ≡ true
 
@@ -281,19 +277,26 @@ module _ (sheet : List ℕ) (p : GroundPhysics) (limit : ℕ) (ball : BallModel)
   value-is : exec o noRect t .value ≡ run o t
   value-is = ap (λ (d : Did (Ran Ending)). d .value) (exec-is o noRect t)
 
-  rest-ok : (x : Outcome Ending) (g : BallState) (R : ℕ → Type 0) → After o (length cs / 20) (length ps / 11) (EndOk o (length cs / 20) (length ps / 11)) R x → stateOk g ≡ true → stateOk (restBy x g) ≡ true
-  rest-ok (goes e) g R h k = h
-  rest-ok (stops n) g R h k = k
+  abbrev Ended : Outcome Ending → ℕ → Type 0
+  Ended x n = After o (length cs / 20) (length ps / 11) (EndOk o (length cs / 20) (length ps / 11)) (Stop o (length cs / 20) (length ps / 11) (n ≡ limit)) x
 
-  all-made : (x : Outcome Ending) (n : ℕ) → After o (length cs / 20) (length ps / 11) (EndOk o (length cs / 20) (length ps / 11)) (λ j. j ≡ 23 → n ≡ limit) x → answerBy x ≡ 23 → n ≡ limit
+  rest-ok : (x : Outcome Ending) (g : BallState) (n : ℕ) → Ended x n → stateOk g ≡ true → stateOk (restBy x g) ≡ true
+  rest-ok (goes e) g n h k = h .0
+  rest-ok (stops j) g n h k = k
+
+  all-made : (x : Outcome Ending) (n : ℕ) → Ended x n → answerBy x ≡ 23 → n ≡ limit
   all-made (goes e) n h k = absurd (omega (arith, k))
-  all-made (stops j) n h k = h k
+  all-made (stops j) n h k = h .2 k
+
+  answer-is : (x : Outcome Ending) (n : ℕ) → Ended x n → Answer (howBy x) (answerBy x)
+  answer-is (goes e) n h = h .1
+  answer-is (stops j) n h = (h .0, h .1)
 
   -- under the answers 0 and 20 to 23
   pub settle-leaves : refusalOf sheet p limit ball density landing (length cs) (length ps) ≡ 0 → Leaves
   unfolding settleOf reportOf runOf conditionsOf
   settle-leaves h =
-      let ok : stateOk landing ≡ true = passed (stateOk landing) (landing-passes landing (rw (accepted-landing sheet p limit ball density landing (length cs) (length ps) h) tt)) in
+      let ok : stateOk landing ≡ true = passed (stateOk landing) (landing-passes landing (rw (settle-landing sheet p limit ball density landing (length cs) (length ps) h) tt)) in
       let k = train-sound o (length cs / 20) (length ps / 11) limit (conditionsOf p limit ball density landing) refl landing ok .all (firstLog landing (length cs) (length ps))
       (record { good = ok; contacts = tt; points = tt; few-contacts = zero-le; few-points = zero-le; room-contacts = refl; room-points = refl }) zero-le in
       record {
@@ -308,6 +311,8 @@ module _ (sheet : List ℕ) (p : GroundPhysics) (limit : ℕ) (ball : BallModel)
         each-contact = k .sound .contacts;
         each-point = k .sound .points;
         steps = rw (h, value-is) (k .steps);
+        made = rw (h, value-is) (k .made ∙ zero-add _);
+        answer = rw (h, value-is) (answer-is (run o t .outcome) (run o t .log .steps) (k .value));
         limit-reached = rw (h, value-is) (all-made (run o t .outcome) (run o t .log .steps) (k .value));
         rest = rw (h, value-is) (rest-ok (run o t .outcome) (run o t .log .good) _ (k .value) (k .sound .good));
       }
@@ -318,16 +323,12 @@ abbrev pub Finite : List Float → Type 0
 Finite [] = Unit
 Finite (x ∷ l) = T (finiteOf x) × Finite l
 
-coord-finite : (x : Float) → T (coordOk x) → T (finiteOf x)
-unfolding coordOk neg round
-coord-finite x t = within-finite (neg (dec 1000000 1)) (dec 1000000 1) x tt tt t
-
 vec-finite : (v : DVec3) → T (vecOk v) → T (finiteOf (v .x)) × T (finiteOf (v .y)) × T (finiteOf (v .z))
 unfolding vecOk
 vec-finite v t =
-    let a = split (coordOk (v .x)) (coordOk (v .y) && coordOk (v .z)) t in
-    let b = split (coordOk (v .y)) (coordOk (v .z)) (a .1) in
-    (coord-finite _ (a .0), coord-finite _ (b .0), coord-finite _ (b .1))
+    let a = and-parts (coordOk (v .x)) (coordOk (v .y) && coordOk (v .z)) t in
+    let b = and-parts (coordOk (v .y)) (coordOk (v .z)) (a .1) in
+    (coord-fin _ (a .0), coord-fin _ (b .0), coord-fin _ (b .1))
 
 phase-finite : (p : Phase) → T (finiteOf (phaseNumber p))
 unfolding round
@@ -345,10 +346,10 @@ pub record StateFinite (s : BallState) : Type 0 where
 pub state-finite : (s : BallState) → stateOk s ≡ true → StateFinite s
 unfolding stateOk
 state-finite s h =
-    let a = split (coordOk (s .time)) (vecOk (s .pos) && (vecOk (s .vel) && vecOk (s .spin))) (rw h tt) in
-    let b = split (vecOk (s .pos)) (vecOk (s .vel) && vecOk (s .spin)) (a .1) in
-    let d = split (vecOk (s .vel)) (vecOk (s .spin)) (b .1) in
-    record { time = coord-finite _ (a .0); pos = vec-finite (s .pos) (b .0); vel = vec-finite (s .vel) (d .0); spin = vec-finite (s .spin) (d .1) }
+    let a = and-parts (coordOk (s .time)) (vecOk (s .pos) && (vecOk (s .vel) && vecOk (s .spin))) (rw h tt) in
+    let b = and-parts (vecOk (s .pos)) (vecOk (s .vel) && vecOk (s .spin)) (a .1) in
+    let d = and-parts (vecOk (s .vel)) (vecOk (s .spin)) (b .1) in
+    record { time = coord-fin _ (a .0); pos = vec-finite (s .pos) (b .0); vel = vec-finite (s .vel) (d .0); spin = vec-finite (s .spin) (d .1) }
 
 pub point-finite : (r : List Float) → PointOf r → Finite r
 point-finite r h =
@@ -372,3 +373,22 @@ contact-finite s ok r h =
     let q = b .spin in
     rw (h .is)
     (a .time, (x .0, (x .1, (x .2, (n .0, (n .1, (n .2, (number-finite (h .sample .number) (g .number), (v .0, (v .1, (v .2, (u .0, (u .1, (u .2, (w .0, (w .1, (w .2, (q .0, (q .1, (q .2, tt))))))))))))))))))))
+
+-- records that are finite, and +0 in all the rest
+finite-append : (a b : List Float) → Finite a → Finite b → Finite (a ++ b)
+finite-append [] b h k = k
+finite-append (x ∷ a) b h k = (h .0, finite-append a b (h .1) k)
+
+finite-zeros : (n : ℕ) → Finite (replicate n null)
+unfolding ofBits
+finite-zeros zero = tt
+finite-zeros (suc n) = (tt, finite-zeros n)
+
+finite-flat : (P : List Float → Type 0) → ((r : List Float) → P r → Finite r) → (rs : Records) → Each P rs → Finite (flat rs)
+unfolding flat
+finite-flat P f [] h = tt
+finite-flat P f (r ∷ rs) h = finite-append r (flat rs) (f r (h .0)) (finite-flat P f rs (h .1))
+
+pub finite-shown : (P : List Float → Type 0) → ((r : List Float) → P r → Finite r) → (n : ℕ) (rs : Records) → Each P rs → Finite (shown n rs)
+unfolding shown
+finite-shown P f n rs h = finite-append (flat rs) _ (finite-flat P f rs h) (finite-zeros (n - length (flat rs)))

@@ -1,0 +1,4 @@
+pub mod Keeps
+pub mod Samples
+pub mod Finite
+pub mod Promises

@@ -1,0 +1,111 @@
+-- What 01 promises of every settle, on one page: each is one statement on what a call gives, proved from the lemmas of Finite.
+use Prim.Native.Nat.{ℕ, _≤_}
+use native.Mathlib.Omega.{arith}
+use mathlib.Core.Path.{_≡_, refl}
+use mathlib.Core.Bool.{Bool, true, false}
+use mathlib.Core.List.{List}
+use lib.Dec.{T, eqb}
+use lib.Ieee.{Float}
+use lib.ListN.{length}
+use borrow.Author.Tests.{eqb-true, eqb-false, ne-eqb}
+use Rattle.number.specs.Ops.{dec}
+use Rattle.number.specs.Number.{aboutOf, finiteOf}
+use Rattle.surface.specs.declared.BallState.{BallState}
+use Rattle.aero.specs.declared.BallModel.{BallModel}
+use Rattle.look.specs.Rect.{coordOk, noRect}
+use Rattle.look.specs.Tree.{exec}
+use Rattle.look.specs.Resume.{steps as stepsOf}
+use Rattle.look.specs.Within.{Edges, coord-fin, edges-ok, no-rect-ok}
+use Rattle.look.specs.declared.Rect.{Rect}
+use Rattle.course.specs.Sheet.{courseOf}
+use Rattle.tally.specs.declared.GroundPhysics.{GroundPhysics}
+use Rattle.roll.specs.declared.Termination.{Termination}
+use Rattle.roll.specs.declared.Termination.the-variants.{Nothing, Rest, MaxTime, MaxImpacts}
+use Rattle.ground.specs.Tests.{refusalOf}
+use Rattle.ground.specs.Passed.{refused-by, settle-sheet}
+use Rattle.ground.specs.Settle.{Result, reportOf, runOf, settleOf}
+use Rattle.promises.specs.Keeps.{PointOf, ContactOf}
+use Rattle.promises.specs.Finite.{Answer, Finite, StateFinite, state-finite, point-finite, contact-finite, finite-shown, settle-leaves}
+
+-- finite, and of magnitude at most 1,000,000
+abbrev pub About : Float → Type 0
+About x = T (finiteOf x) × T (aboutOf (dec 1000000 1) x)
+
+about : (r : Rect) → Edges (λ x. T (coordOk x)) r → Edges About r
+unfolding coordOk
+about r h = ((coord-fin _ (h .0), h .0), (coord-fin _ (h .1), h .1), (coord-fin _ (h .2), h .2), (coord-fin _ (h .3), h .3))
+
+module _ (sheet : List ℕ) (p : GroundPhysics) (limit : ℕ) (ball : BallModel) (density : Float) (landing : BallState) (cs ps : List Float) where
+  -- what the call gives; the number of the first test that it fails, or 0
+  abbrev pub got : Result
+  got = settleOf sheet p limit ball density landing cs ps
+
+  abbrev pub number : ℕ
+  number = refusalOf sheet p limit ball density landing (length cs) (length ps)
+
+  -- 01: "the lists above say when each number comes and at no other time, which demand 1 carries". An accepted call answers 0 and ends by rest, time
+  -- or impacts; or it answers 20, 21, 22 or 23 and has no termination
+  pub accepted-answer : number ≡ 0 → Answer (got .settled .termination) (got .settled .answer)
+  accepted-answer h = settle-leaves sheet p limit ball density landing cs ps h .answer
+
+  -- 01, "Numbers for what was handed in": a refused call answers 1 to 8, and has no termination
+  pub refused-answer : (number ≡ 0 → ⊥) → (1 ≤ got .settled .answer) × (got .settled .answer ≤ 8) × (got .settled .termination ≡ Nothing)
+  unfolding settleOf
+  refused-answer h = let b = refused-by sheet p limit ball density landing (length cs) (length ps) in rw (ne-eqb number 0 h) (omega (arith, h), b, refl)
+
+  -- 01: "Result of a settle: the number": 0 comes from accepted calls alone
+  pub answered : got .settled .answer ≡ 0 → number ≡ 0
+  unfolding settleOf
+  answered h = go (eqb number 0) refl
+    where
+      go : (b : Bool) → eqb number 0 ≡ b → number ≡ 0
+      go true e = eqb-true number 0 e
+      go false e = rw e at h
+
+  -- 01: "termination (`rest`, `time`, `impacts`, or `-` on a refusal)": of every call, one of the three exactly with answer 0
+  pub finished : got .settled .answer ≡ 0 → got .settled .termination ≡ Nothing → ⊥
+  finished h e = let k : Answer Nothing 0 = rw (e, h) at (accepted-answer (answered h)) in let i = k .0 in omega (arith, i)
+
+  pub unfinished : (got .settled .answer ≡ 0 → ⊥) → got .settled .termination ≡ Nothing
+  unfinished h = go (eqb number 0) refl
+    where
+      none : (t : Termination) (n : ℕ) → (n ≡ 0 → ⊥) → Answer t n → t ≡ Nothing
+      none Nothing n h a = refl
+      none Rest n h a = absurd (h a)
+      none MaxTime n h a = absurd (h a)
+      none MaxImpacts n h a = absurd (h a)
+
+      go : (b : Bool) → eqb number 0 ≡ b → got .settled .termination ≡ Nothing
+      go true e = none _ _ h (accepted-answer (eqb-true number 0 e))
+      go false e = refused-answer (eqb-false number 0 e) .2
+
+  -- Demand 1: no NaN and no infinity in any record or final state. 01: "finite, magnitude ≤ 1,000,000" of what is tested, "+0 in all the rest" of the
+  -- lists. So every double of both lists is finite, past the counts too
+  pub record AllFinite : Type 0 where
+    pub contacts : Finite (got .contacts)
+    pub points : Finite (got .points)
+    pub rest : StateFinite (got .settled .rest)
+
+  pub all-finite : number ≡ 0 → AllFinite
+  all-finite h =
+      let l = settle-leaves sheet p limit ball density landing cs ps h in
+      let k = contact-finite sheet (settle-sheet sheet p limit ball density landing (length cs) (length ps) h) in
+      record {
+        contacts = rw (l .contacts-listed) (finite-shown (ContactOf (courseOf sheet)) k _ (l .contacts) (l .each-contact));
+        points = rw (l .points-listed) (finite-shown PointOf point-finite _ (l .points) (l .each-point));
+        rest = state-finite _ (l .rest);
+      }
+
+  -- 01, "Course sheet": every look widens the rectangle, and "before each look x and z get the same test". Of every call: each edge is finite and
+  -- within ±1,000,000 by value; with no look it is +0
+  pub rect-about : Edges About (got .settled .rect)
+  unfolding settleOf reportOf
+  rect-about = go (eqb number 0) refl
+    where
+      go : (b : Bool) → eqb number 0 ≡ b → Edges About (got .settled .rect)
+      go true e = let t = runOf p limit ball density landing (length cs) (length ps) in rw e (about (exec (courseOf sheet) noRect t .rect) (edges-ok (courseOf sheet) t))
+      go false e = rw e (about noRect no-rect-ok)
+
+  -- 01: "its count must equal the steps made"
+  pub steps-made : number ≡ 0 → got .settled .steps ≡ stepsOf (courseOf sheet) (runOf p limit ball density landing (length cs) (length ps))
+  steps-made h = settle-leaves sheet p limit ball density landing cs ps h .made
