@@ -21,7 +21,7 @@ use Rattle.number.specs.Order.{eq-self, lt-le-trans, le-lt-trans}
 use Rattle.fields.specs.Fields.{wholeOf, doubleAt}
 use Rattle.board.specs.declared.Board.{Board}
 use Rattle.board.specs.declared.Entry.{Entry}
-use Rattle.board.specs.Board.{isBefore, listing, insert, holds, entry, emptyEntry, emptyBoard, answered, newOf, withEntry, enterOf}
+use Rattle.board.specs.Board.{isBefore, listing, holds, entry, emptyEntry, emptyBoard, answered, newOf, withEntry, enterOf}
 use Rattle.board.specs.Listing.{All, Sound, Near, all-insert, with-sound}
 use Rattle.layout.specs.Layout.{natOf, isWhole, entryOk, entryAt, entriesOk, entriesAt, boardOk, boardAt, entryFields, entriesFields, boardFields}
 
@@ -111,11 +111,12 @@ module _ (b : Board) where
 
 -- ---- boards
 
--- what holds of every board that calls made: a count of at most 256, a pin that passed test 9, and in each of the 256 places, those past the count
--- too, a shot number that a u32 holds and a spot that passed test 10
+-- a shot number that a u32 holds, and a spot that passed test 10
 abbrev pub Kept : Entry → Type 0
 Kept e = (e .shot ≤ 4294967295) × Near e
 
+-- what holds of every board that calls made: 256 places, a count of at most 256, a pin that passed test 9, and such an entry in each place, those
+-- past the count too
 pub record Held (b : Board) : Type 0 where
   pub sound : Sound b
   pub pin-x : T (aboutOf (dec 100000 1) (b .«pin_x»))

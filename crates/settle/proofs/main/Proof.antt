@@ -1,9 +1,9 @@
 -- The count that `write_line` gives is one of bytes of its array.
 use Prim.Native.Nat.{ℕ, _≤_}
 use native.Mathlib.Omega.{arith}
-use mathlib.Core.Path.{_≡_, ap, _∙_, sym}
+use mathlib.Core.Path.{_≡_, ap, sym}
 use mathlib.Core.List.{List, _++_}
-use lib.ListN.{length, take, drop, length-append}
+use lib.ListN.{length, drop, length-append}
 use lib.Seq.{length-take-le}
 use borrow.Author.Needs.{needs}
 use Rattle.io.specs.Counts.{Counts}
