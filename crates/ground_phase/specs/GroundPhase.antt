@@ -14,7 +14,7 @@ use Rattle.roll.specs.declared.Roll.{Roll}
 use Rattle.roll.specs.declared.Ending.{Ending}
 use Rattle.roll.specs.declared.Termination.the-variants.{MaxTime}
 
--- `if last_phase is None then Phase::Roll`: `last_phase.unwrap_or(Phase::Roll)`
+-- `last_phase.unwrap_or(Phase::Roll)`
 unfoldable pub lastPhase : ℕ → Phase
 lastPhase last = cond (eqb last 1) Slide InRoll
 
