@@ -5,6 +5,7 @@ use crate::{different, threads};
 use dimple_ref::added::{HIT_NAMES, take_hits};
 use dimple_ref::ground::leaf::LEAVES;
 use dimple_ref::stand::Stand;
+use std::f64::consts::{LN_2, LOG2_E};
 use std::sync::atomic::{AtomicBool, Ordering};
 use std::time::Instant;
 
@@ -112,6 +113,27 @@ fn for_root(r: &mut Rng) -> f64 {
     }
 }
 
+/// The whole numbers n of exp, from -1010 to 1010, that were reached.
+static EXPONENTS: [AtomicBool; 2021] = [const { AtomicBool::new(false) }; 2021];
+
+/// Any double, and neighbours of the points where n changes and where nothing is left after it.
+fn for_exp(r: &mut Rng) -> f64 {
+    let x = match r.below(4) {
+        0 => any(r),
+        1 => r.range(-701.0, 701.0),
+        k => {
+            let n = r.below(2021) as f64 - 1010.0;
+            let t = if k == 2 { n + 0.5 } else { n } * LN_2;
+            f64::from_bits(t.to_bits().wrapping_add(r.next() % 129).wrapping_sub(64))
+        }
+    };
+    if x.abs() <= 700.0 {
+        let n = (x * LOG2_E + 6755399441055744.0) - 6755399441055744.0;
+        EXPONENTS[(n + 1010.0) as usize].store(true, Ordering::Relaxed);
+    }
+    x
+}
+
 const NUMBERS: &[Number] = &[
     #[cfg(has_probe_root)]
     Number {
@@ -164,8 +186,8 @@ const NUMBERS: &[Number] = &[
     #[cfg(has_probe_exponential)]
     Number {
         name: "exponential",
-        millions: 10,
-        inputs: |r| [any(r), 0.0, 0.0],
+        millions: 100,
+        inputs: |r| [for_exp(r), 0.0, 0.0],
         library: |a| probe_exponential(a[0]),
         reference: |a| a[0].exponential(),
     },
@@ -499,7 +521,7 @@ fn number_mode(f: &Number, seed: u64, count: u64) -> (u64, f64, f64) {
     (done, lib, rust)
 }
 
-/// Where a leaf's inputs come from. `NoExp`: the working range without a call of exp, whose table leaf is slow.
+/// Where a leaf's inputs come from. `NoExp`: the working range without a call of exp.
 #[derive(Clone, Copy, PartialEq)]
 enum Kind {
     Working,
@@ -601,6 +623,8 @@ pub fn run(seed: u64, share: u64, n: u64, only: &str) {
         let count = f.millions * 10_000 * share / n;
         report(f.name, "all", threads(n, |t| number_mode(f, seed.wrapping_mul(77) + t, count)));
     }
+    let exponents = EXPONENTS.iter().filter(|n| n.load(Ordering::Relaxed)).count();
+    println!("  exponents n of exp reached: {exponents} of {}", EXPONENTS.len());
     for leaf in 0..LEAVES.len() {
         let name = LEAVES[leaf].0;
         if !DOORS.iter().any(|d| d.0 == name) {

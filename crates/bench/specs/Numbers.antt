@@ -85,7 +85,7 @@ pub exp-at-ten : expOf (dec 10 1) ≡ ofBits binary64 0x40d5829dcf950560
 unfolding expOf round add sub mul div lt ne neg ofInt toSigned ofBits
 exp-at-ten = refl
 
--- the ends of the range, with the first and the last power but one
+-- the ends of the range, with the first and the last power, 2 ^ −1010 and 2 ^ 1010
 pub exp-at-limit : expOf (dec 700 1) ≡ ofBits binary64 0x7f0d945df4f8ec8e
 unfolding expOf round add sub mul div lt ne neg ofInt toSigned ofBits
 exp-at-limit = refl

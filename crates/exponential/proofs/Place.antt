@@ -1,4 +1,4 @@
--- The bits of the sum that exp makes, and the place in the table that they give. Assumes nothing.
+-- The bits of the sum that exp makes, and the index of the power of two that they give. Assumes nothing.
 use mathlib.Core.Path.{_≡_, sym, ap, _∙_, subst}
 use Prim.Native.Nat.{ℕ, _+_, _-_, _*_, _/_, _%_, _^_, _≤_, _<_}
 use native.Mathlib.Omega.{arith}
@@ -11,7 +11,7 @@ use lib.Ieee.Back.{whole-unique}
 use Rattle.exponential.specs.Exp.{shiftBy}
 use Rattle.exponential.specs.Rounding.{by-one}
 use Rattle.exponential.specs.Shift.{Sum, integer}
-use Rattle.exponential.proofs.Table.{normal}
+use Rattle.exponential.specs.Power.{normal}
 
 pub no-nan : (u : Float) → Sum u → T (not (isNan u))
 unfolding isNan
@@ -35,7 +35,7 @@ bits-of-sum u f s =
     let e : u ≡ ofBits binary64 b = whole-unique binary64 u (ofBits binary64 b) false (s .q) f (ofBits-fits binary64 b) (s .is) (pattern-value (s .q) (omega arith) (omega arith)) in
     ap (toBits binary64) e ∙ toBits-ofBits binary64 b (omega arith) (subst (λ (y : Float). T (not (isNan y))) e (no-nan u s))
 
--- the index, by the sum's bits, is of the entry for that integer
+-- the index, by the sum's bits, is that of the power for that integer
 pub record Index (u : Float) : Type 0 where
   pub least : 4843621399236967438 ≤ toBits binary64 u
   pub most : toBits binary64 u - 4843621399236967438 < 2021

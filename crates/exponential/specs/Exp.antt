@@ -5,7 +5,7 @@ use lib.IntN.{pos}
 use lib.Ieee.{Float, inf, fin, binary64, minus, lt, ne, neg, ofInt, toSigned}
 use Rattle.number.specs.Ops.{_⊕_, _⊖_, _⊗_, _⊘_, dec}
 
--- entry i of the table: 2 ^ (i − 1010)
+-- 2 ^ (i − 1010); for i below 2021 a double, whose bits `specs/Power.antt` gives
 abbrev pub power : ℕ → Float
 power i = fin false 1 (minus i 1010)
 

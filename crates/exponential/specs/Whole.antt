@@ -1,4 +1,4 @@
--- For x from −700 to 700 the n of exp is a whole number from −1010 to 1010, so 2 ^ n is in the table. Assumes nothing.
+-- For x from −700 to 700 the n of exp is a whole number from −1010 to 1010, so 2 ^ n is a double (`specs/Power.antt`). Assumes nothing.
 use mathlib.Core.Path.{_≡_, ap}
 use mathlib.Core.Bool.{false}
 use Prim.Native.Nat.{ℕ, _-_, _<_}
@@ -7,7 +7,7 @@ use lib.Ieee.{Float, fin, binary64, minus, ofInt, lt, ne, neg}
 use Rattle.exponential.specs.Exp.{power, limit, shifted, exponent, twoTo}
 use Rattle.exponential.specs.Shift.{sum-of, difference, integer}
 
--- n is the double of the integer i − 1010, and 2 ^ n is entry i
+-- n is the double of the integer i − 1010, and 2 ^ n is `power i`
 pub record Whole (x : Float) : Type 0 where
   pub i : ℕ
   pub most : i < 2021
