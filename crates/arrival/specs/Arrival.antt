@@ -9,7 +9,7 @@ use Rattle.number.specs.Ops.{_⊕_, _⊖_, _⊗_, _⊘_, dec}
 use Rattle.number.specs.Number.{minOf, clampOf}
 use Rattle.vector.specs.Vec.{vec}
 use Rattle.vector.specs.declared.DVec3.{DVec3}
-use Rattle.surface.specs.declared.BallState.{BallState}
+use Rattle.state.specs.declared.BallState.{BallState}
 use Rattle.rk4.specs.declared.State.{State}
 use Rattle.contact.specs.Arc.{hermiteOf, parabolaOf, dropTime}
 use Rattle.search.specs.Search.{findRoot}

@@ -1,7 +1,7 @@
 -- What the answers of the functions that only look stand for.
 use mathlib.Core.Option.{Option, none, some}
 use lib.Ieee.{Float}
-use Rattle.surface.specs.declared.BallState.{BallState}
+use Rattle.state.specs.declared.BallState.{BallState}
 use Rattle.search.specs.declared.Bracket.{Bracket}
 use Rattle.tally.specs.Language.{Outcome, goes, stops}
 use Rattle.arrival.specs.declared.Value.{Value}

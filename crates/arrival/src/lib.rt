@@ -12,7 +12,7 @@ use look::Rect;
 use rk4::State;
 use search::Bracket;
 use search::RootStep;
-use surface::BallState;
+use state::BallState;
 use vector::DVec3;
 
 const CROSSING_SUBSTEPS: u32 = 8;

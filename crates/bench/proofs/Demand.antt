@@ -13,7 +13,7 @@ use Rattle.number.specs.Number.{withinOf}
 use Rattle.number.specs.Order.{le-through}
 use Rattle.vector.specs.Vec.{vec, zero3}
 use Rattle.surface.specs.Surface.{green}
-use Rattle.surface.specs.declared.BallState.{BallState}
+use Rattle.state.specs.declared.BallState.{BallState}
 use Rattle.aero.specs.Aero.{tour}
 use Rattle.course.specs.Sheet.{Accepted, little, first, covers, restitutionOf, lawOf, surfaceOf, patchSample, plainSample, courseOf}
 use Rattle.tally.specs.Physics.{physicsNew}
@@ -62,21 +62,21 @@ at-rest : settleOf sheetT physicsNew 1000 tour (dec 1225 1000) atZero (ones 20) 
 unfolding definitions zeros ones
 at-rest =
     demand-3 physicsNew 1000 tour (dec 1225 1000) atZero sheetS sheetT (zeros 20) (zeros 22) (ones 20) (ones 22) accepted-s accepted-t refl refl
-    (λ lo hi. absurd (let l : 4 ≤ 0 = lo in omega arith)) (λ x z w. alike x z (not-ten x (w .1)))
+    (λ lo hi. absurd (let l : 4 ≤ 0 = lo in omega arith)) (λ x z i j w. alike x z (not-ten x (w .1)))
 
 -- answer 23
 stopped : settleOf sheetT physicsNew 1 tour (dec 1225 1000) falling (ones 20) (ones 22) ≡ settleOf sheetS physicsNew 1 tour (dec 1225 1000) falling (zeros 20) (zeros 22)
 unfolding definitions zeros ones falling
 stopped =
     demand-3 physicsNew 1 tour (dec 1225 1000) falling sheetS sheetT (zeros 20) (zeros 22) (ones 20) (ones 22) accepted-s accepted-t refl refl
-    (λ lo hi. absurd (let l : 23 ≤ 8 = hi in omega arith)) (λ x z w. alike x z (not-ten x (w .1)))
+    (λ lo hi. absurd (let l : 23 ≤ 8 = hi in omega arith)) (λ x z i j w. alike x z (not-ten x (w .1)))
 
 -- answer 7: the old contents are the same
 refused-7 : settleOf sheetT physicsNew 1000 tour (dec 1225 1000) tooFast (ones 20) (ones 22) ≡ settleOf sheetS physicsNew 1000 tour (dec 1225 1000) tooFast (ones 20) (ones 22)
 unfolding definitions ones tooFast
 refused-7 =
     demand-3 physicsNew 1000 tour (dec 1225 1000) tooFast sheetS sheetT (ones 20) (ones 22) (ones 20) (ones 22) accepted-s accepted-t refl refl
-    (λ lo hi. (refl, refl)) (λ x z w. alike x z (not-ten x (w .1)))
+    (λ lo hi. (refl, refl)) (λ x z i j w. alike x z (not-ten x (w .1)))
 
 answer-7 : settleOf sheetS physicsNew 1000 tour (dec 1225 1000) tooFast (ones 20) (ones 22) .settled .answer ≡ 7
 unfolding definitions ones tooFast
@@ -87,7 +87,7 @@ refused-8 : settleOf sheetT physicsNew 1000 tour (dec 1225 1000) atZero (ones 21
 unfolding definitions ones
 refused-8 =
     demand-3 physicsNew 1000 tour (dec 1225 1000) atZero sheetS sheetT (ones 21) (ones 22) (ones 21) (ones 22) accepted-s accepted-t refl refl
-    (λ lo hi. (refl, refl)) (λ x z w. alike x z (not-ten x (w .1)))
+    (λ lo hi. (refl, refl)) (λ x z i j w. alike x z (not-ten x (w .1)))
 
 answer-8 : settleOf sheetS physicsNew 1000 tour (dec 1225 1000) atZero (ones 21) (ones 22) .settled .answer ≡ 8
 unfolding definitions ones

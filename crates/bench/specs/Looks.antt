@@ -7,7 +7,7 @@ use lib.ListN.{replicate}
 use lib.Ieee.{Float, binary64, ofBits, neg}
 use Rattle.number.specs.Ops.{dec}
 use Rattle.vector.specs.Vec.{vec, zero3}
-use Rattle.surface.specs.declared.BallState.{BallState}
+use Rattle.state.specs.declared.BallState.{BallState}
 use Rattle.surface.specs.declared.Restitution.{Restitution}
 use Rattle.surface.specs.declared.RollLaw.{RollLaw}
 use Rattle.surface.specs.declared.Surface.{Surface}

@@ -8,10 +8,10 @@ use lib.Ieee.{Float}
 use lib.Ieee.Fits.{and-l, and-r}
 use Rattle.number.specs.Ops.{dec}
 use Rattle.number.specs.Number.{aboutOf}
-use Rattle.surface.specs.declared.BallState.{BallState}
+use Rattle.state.specs.declared.BallState.{BallState}
 use Rattle.aero.specs.declared.BallModel.{BallModel}
-use Rattle.look.specs.Rect.{coordOk}
-use Rattle.tally.specs.Language.{vecOk, stateOk}
+use Rattle.state.specs.State.{coordOk}
+use Rattle.state.specs.State.{vecOk, stateOk}
 use Rattle.tally.specs.declared.GroundPhysics.{GroundPhysics}
 use Rattle.ground.specs.Settle.{settleOf}
 use Rattle.promises.specs.Finite.{settle-leaves}

@@ -6,7 +6,7 @@ use Rattle.number.specs.Ops.{_⊕_, _⊖_, _⊗_, _⊘_, dec}
 use Rattle.number.specs.Number.{signumOf}
 use Rattle.vector.specs.Vec.{vec, zero3, vadd, vsub, vscale, vdivs, vdot, vcross, vlength, vlengthSquared, vnormalize, sameVec}
 use Rattle.vector.specs.declared.DVec3.{DVec3}
-use Rattle.surface.specs.declared.BallState.{BallState}
+use Rattle.state.specs.declared.BallState.{BallState}
 use Rattle.surface.specs.declared.GroundSample.{GroundSample}
 use Rattle.surface.specs.declared.Surface.{Surface}
 use Rattle.aero.specs.Aero.{gravity, gOf, radiusOf}

@@ -6,7 +6,7 @@ use aero::BallModel;
 use aero::G;
 use aero::GRAVITY;
 use rk4::State;
-use surface::BallState;
+use state::BallState;
 use surface::GroundSample;
 use surface::Surface;
 use vector::DVec3;

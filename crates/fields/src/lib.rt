@@ -4,7 +4,7 @@ ghost use Prim.Native.Nat.{_+_, _≤_};
 ghost use lib.ListN.{length};
 ghost use Rattle.fields.specs.Fields.{wholeOf, vecAt, stateAt, ballAt, written};
 use aero::BallModel;
-use surface::BallState;
+use state::BallState;
 use vector::DVec3;
 
 // A whole number as a double.

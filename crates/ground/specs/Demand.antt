@@ -1,6 +1,6 @@
 -- Demand 3, of the whole settle: refused, stopped or finished, with both lists. A second accepted sheet whose course agrees with the first's at
--- every spot within the rectangle that the first call reports gives the same result and lists. The other inputs are the same; the lists' old
--- contents count only where the answer is one of 4 to 8.
+-- every spot of doubles within the rectangle that the first call reports gives the same result and lists. The other inputs are the same; the
+-- lists' old contents count only where the answer is one of 4 to 8.
 use Prim.Native.Nat.{ℕ, suc, _≤_}
 use native.Mathlib.Omega.{arith}
 use mathlib.Core.Path.{_≡_, refl, ap, _∙_, sym}
@@ -9,12 +9,12 @@ use mathlib.Core.List.{List, [], _∷_}
 use lib.Dec.{eqb}
 use lib.Ieee.{Float}
 use lib.ListN.{length}
-use Rattle.surface.specs.declared.BallState.{BallState}
+use Rattle.state.specs.declared.BallState.{BallState}
 use Rattle.aero.specs.declared.BallModel.{BallModel}
 use Rattle.look.specs.Rect.{noRect}
 use Rattle.look.specs.Agree.{All, rectFrom}
 use Rattle.look.specs.Tree.{Spot, exec}
-use Rattle.look.specs.Within.{Within, Inside, agree-within, rect-of-looks, holds-every-look, least-rectangle, no-look-zero}
+use Rattle.look.specs.Within.{Within, AgreeIn, Inside, agree-within, rect-of-looks, holds-every-look, least-rectangle, no-look-zero}
 use Rattle.look.specs.declared.Rect.{Rect}
 use Rattle.course.specs.Sheet.{Accepted, answerOf, courseOf}
 use Rattle.tally.specs.Language.{if_then_else_}
@@ -46,7 +46,7 @@ module _ (p : GroundPhysics) (limit : ℕ) (ball : BallModel) (density : Float) 
 
     -- demand 3
     pub demand-3 : (4 ≤ settleOf a p limit ball density landing cs ps .settled .answer → settleOf a p limit ball density landing cs ps .settled .answer ≤ 8 → (ds ≡ cs) × (qs ≡ ps))
-        → ((x z : Float) → Within (settleOf a p limit ball density landing cs ps .settled .rect) x z → courseOf b x z ≡ courseOf a x z)
+        → AgreeIn (courseOf a) (courseOf b) (settleOf a p limit ball density landing cs ps .settled .rect)
         → settleOf b p limit ball density landing ds qs ≡ settleOf a p limit ball density landing cs ps
     unfolding settleOf reportOf
     demand-3 old agree = go (eqb (refusalOf a p limit ball density landing (length cs) (length ps)) 0) refl

@@ -7,7 +7,7 @@ use lib.Ieee.{Float}
 use lib.ListN.{length}
 use Rattle.number.specs.Ops.{_⊕_, dec}
 use Rattle.vector.specs.Vec.{zero3}
-use Rattle.surface.specs.declared.BallState.{BallState}
+use Rattle.state.specs.declared.BallState.{BallState}
 use Rattle.aero.specs.declared.BallModel.{BallModel}
 use Rattle.look.specs.Rect.{noRect}
 use Rattle.look.specs.Tree.{Tree, Spot, Did, exec, looks}
@@ -18,8 +18,8 @@ use Rattle.tally.specs.Language.{Log, Outcome, goes, stops, Ran, if_then_else_}
 use Rattle.tally.specs.declared.GroundPhysics.{GroundPhysics}
 use Rattle.tally.specs.declared.Conditions.{Conditions}
 use Rattle.roll.specs.declared.Ending.{Ending}
-use Rattle.roll.specs.declared.Termination.{Termination}
-use Rattle.roll.specs.declared.Termination.the-variants.{Nothing, Rest, MaxTime, MaxImpacts}
+use Rattle.state.specs.declared.Termination.{Termination}
+use Rattle.state.specs.declared.Termination.the-variants.{Nothing, Rest, MaxTime, MaxImpacts}
 use Rattle.train.specs.Train.{train}
 use Rattle.ground.specs.Tests.{refusalOf}
 use Rattle.ground.specs.declared.Settled.{Settled}

@@ -3,7 +3,7 @@ use Prim.Native.Nat.{ℕ}
 use mathlib.Core.List.{List}
 use lib.Dec.{eqb}
 use lib.Ieee.{Float}
-use Rattle.surface.specs.declared.BallState.{BallState}
+use Rattle.state.specs.declared.BallState.{BallState}
 use Rattle.aero.specs.Aero.{radiusOf}
 use Rattle.aero.specs.declared.BallModel.{BallModel}
 use Rattle.impact.specs.Impact.{impactOf}

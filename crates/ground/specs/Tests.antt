@@ -7,7 +7,7 @@ use lib.Ieee.{Float}
 use Rattle.number.specs.Ops.{dec}
 use Rattle.number.specs.Number.{withinOf, aboutOf}
 use Rattle.vector.specs.declared.DVec3.{DVec3}
-use Rattle.surface.specs.declared.BallState.{BallState}
+use Rattle.state.specs.declared.BallState.{BallState}
 use Rattle.aero.specs.declared.BallModel.{BallModel}
 use Rattle.course.specs.Sheet.{answerOf}
 use Rattle.tally.specs.Language.{if_then_else_}

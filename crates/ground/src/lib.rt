@@ -9,8 +9,8 @@ use aero::BallModel;
 use ground_phase::RunEnd;
 use look::Look;
 use look::Rect;
-use roll::Termination;
-use surface::BallState;
+use state::BallState;
+use state::Termination;
 use tally::Conditions;
 use tally::GroundPhysics;
 use train::RunOut;
@@ -333,7 +333,7 @@ fn step_made(
     };
     let normal = at.normal;
     let b = contact::onto_surface(next, under, normal, moved.rolling, ball.radius_m());
-    if !tally::state_ok(b) {
+    if !state::state_ok(b) {
         return step_refused(22, state);
     }
     StepOut {
@@ -401,7 +401,7 @@ fn impact_made(sheet: &[u8], index: &[u64], ball: BallModel, state: BallState) -
         return impact_out(22, state);
     };
     let out = impact::impact(state, at, ball);
-    if !tally::state_ok(out) {
+    if !state::state_ok(out) {
         return impact_out(22, state);
     }
     impact_out(0, out)

@@ -1,9 +1,9 @@
 -- What the answers of the ground phase stand for, and the contracts.
 use mathlib.Core.List.{List}
 use lib.Ieee.{Float}
-use Rattle.surface.specs.declared.BallState.{BallState}
+use Rattle.state.specs.declared.BallState.{BallState}
 use Rattle.surface.specs.declared.GroundSample.{GroundSample}
-use Rattle.slide.specs.declared.Phase.{Phase}
+use Rattle.state.specs.declared.Phase.{Phase}
 use Rattle.look.specs.Tree.{Oracle}
 use Rattle.tally.specs.Language.{Outcome, goes, stops}
 use Rattle.tally.specs.Contracts.{Runs}

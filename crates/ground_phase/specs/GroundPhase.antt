@@ -2,17 +2,17 @@
 use Prim.Native.Nat.{ℕ}
 use mathlib.Core.Bool.{cond}
 use lib.Dec.{eqb}
-use Rattle.surface.specs.declared.BallState.{BallState}
+use Rattle.state.specs.declared.BallState.{BallState}
 use Rattle.surface.specs.declared.GroundSample.{GroundSample}
-use Rattle.slide.specs.declared.Phase.{Phase}
-use Rattle.slide.specs.declared.Phase.the-variants.{Slide, Roll as InRoll}
+use Rattle.state.specs.declared.Phase.{Phase}
+use Rattle.state.specs.declared.Phase.the-variants.{Slide, Roll as InRoll}
 use Rattle.tally.specs.Times.{isLate}
 use Rattle.tally.specs.Language.{M, _>>=_, _>>_, pure, pushPoint, stepsLeft, loop}
 use Rattle.tally.specs.declared.Conditions.{Conditions}
 use Rattle.roll.specs.Roll.{ending, roll, groundStep}
 use Rattle.roll.specs.declared.Roll.{Roll}
 use Rattle.roll.specs.declared.Ending.{Ending}
-use Rattle.roll.specs.declared.Termination.the-variants.{MaxTime}
+use Rattle.state.specs.declared.Termination.the-variants.{MaxTime}
 
 -- `last_phase.unwrap_or(Phase::Roll)`
 unfoldable pub lastPhase : ℕ → Phase

@@ -4,11 +4,12 @@ use mathlib.Core.Path.{_≡_}
 use mathlib.Core.Bool.{true, false}
 use mathlib.Core.Option.{Option}
 use lib.Ieee.{Float}
-use Rattle.surface.specs.declared.BallState.{BallState}
+use Rattle.state.specs.declared.BallState.{BallState}
 use Rattle.aero.specs.declared.AeroParams.{AeroParams}
 use Rattle.look.specs.Tree.{Oracle, exec, did, Did}
 use Rattle.look.specs.declared.Rect.{Rect}
-use Rattle.tally.specs.Language.{Ran, ran, Log, Outcome, goes, stops, Pass, stateOk, stepped, tested}
+use Rattle.state.specs.State.{stateOk}
+use Rattle.tally.specs.Language.{Ran, ran, Log, Outcome, goes, stops, Pass, stepped, tested}
 use Rattle.tally.specs.Words.{step-counted, test-ok, test-bad, went, halted}
 use Rattle.tally.specs.declared.Conditions.{Conditions}
 use Rattle.arrival.specs.Arrival.{clearance, hopArrival}

@@ -1,7 +1,7 @@
 -- What the answers of a hop stand for, and its contract.
 use mathlib.Core.List.{List}
 use lib.Ieee.{Float}
-use Rattle.surface.specs.declared.BallState.{BallState}
+use Rattle.state.specs.declared.BallState.{BallState}
 use Rattle.aero.specs.declared.AeroParams.{AeroParams}
 use Rattle.look.specs.Tree.{Oracle}
 use Rattle.tally.specs.Language.{Outcome, goes, stops, Pass, again}

@@ -4,12 +4,12 @@ use mathlib.Core.Option.{Option, none, some}
 use lib.Ieee.{Float}
 use Rattle.number.specs.Ops.{_⊕_, _⊖_}
 use Rattle.number.specs.Number.{minOf}
-use Rattle.surface.specs.declared.BallState.{BallState}
+use Rattle.state.specs.declared.BallState.{BallState}
 use Rattle.aero.specs.Aero.{fromSpinVector}
 use Rattle.aero.specs.declared.AeroParams.{AeroParams}
 use Rattle.rk4.specs.declared.State.{State}
 use Rattle.flight.specs.Flight.{flightStep}
-use Rattle.slide.specs.declared.Phase.the-variants.{Hop}
+use Rattle.state.specs.declared.Phase.the-variants.{Hop}
 use Rattle.tally.specs.Times.{sampleInterval, isLate, isDue, nextAfter}
 use Rattle.tally.specs.Language.{M, _>>=_, _>>_, pure, when, countStep, test, pushPoint, stepsLeft, Pass, again, over, loop}
 use Rattle.tally.specs.declared.Conditions.{Conditions}

@@ -13,8 +13,8 @@ use arrival::Arrival;
 use arrival::Value;
 use records::Pushed;
 use rk4::State;
-use slide::Phase;
-use surface::BallState;
+use state::BallState;
+use state::Phase;
 use tally::Conditions;
 use tally::Tally;
 
@@ -104,7 +104,7 @@ fn hop_step(
     let arc = step_arc(c, aero, state);
     let b = step_end(arc, state);
     let t1 = tally::stepped(t);
-    if !tally::state_ok(b) {
+    if !state::state_ok(b) {
         return HopPass {
             step: HopStep::Over(HopEnd::Ended(22)),
             tally: t1,
@@ -134,7 +134,7 @@ fn hop_step(
             tally: t4,
         },
         Arrival::At(s) => {
-            if tally::state_ok(s) {
+            if state::state_ok(s) {
                 HopPass {
                     step: HopStep::Over(HopEnd::Flew(Way::Arrived(s))),
                     tally: tally::tested(t4, s),

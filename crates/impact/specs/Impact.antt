@@ -9,7 +9,7 @@ use Rattle.vector.specs.declared.DVec3.{DVec3}
 use Rattle.vector.specs.Vec.{zero3, vadd, vsub, vscale, vdivs, vdot, vcross, vlength, vnormalize}
 use Rattle.surface.specs.declared.Surface.{Surface}
 use Rattle.surface.specs.declared.GroundSample.{GroundSample}
-use Rattle.surface.specs.declared.BallState.{BallState}
+use Rattle.state.specs.declared.BallState.{BallState}
 use Rattle.surface.specs.Surface.{contactAngle, coefficientAt}
 use Rattle.aero.specs.declared.BallModel.{BallModel}
 use Rattle.aero.specs.Aero.{radiusOf}

@@ -2,7 +2,7 @@
 ghost use mathlib.Core.Path.{_≡_};
 ghost use Rattle.impact.specs.Impact.{unitOrZero, effectiveNormal, frictionImpulse, pivoted, struck, impactOf};
 use aero::BallModel;
-use surface::BallState;
+use state::BallState;
 use surface::GroundSample;
 use surface::Surface;
 use vector::DVec3;

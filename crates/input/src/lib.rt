@@ -7,8 +7,8 @@ ghost use Rattle.input.specs.Input.{wholeAt, realAt, vecAt, physicsAt, b
 use aero::BallModel;
 use ground::Settled;
 use look::Rect;
-use roll::Termination;
-use surface::BallState;
+use state::BallState;
+use state::Termination;
 use tally::GroundPhysics;
 use vector::DVec3;
 

@@ -8,8 +8,8 @@ use lib.ListN.{length, take, drop, replicate}
 use lib.Ieee.{Float}
 use Rattle.number.specs.Ops.{dec}
 use Rattle.ground.specs.declared.Settled.{Settled}
-use Rattle.roll.specs.declared.Termination.{Termination}
-use Rattle.roll.specs.declared.Termination.the-variants.{Nothing, Rest, MaxTime, MaxImpacts}
+use Rattle.state.specs.declared.Termination.{Termination}
+use Rattle.state.specs.declared.Termination.the-variants.{Nothing, Rest, MaxTime, MaxImpacts}
 use Rattle.input.specs.Input.{settleInputOf}
 
 -- ---- numbers

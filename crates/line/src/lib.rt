@@ -5,7 +5,7 @@ ghost use mathlib.Core.List.{_++_};
 ghost use lib.ListN.{length};
 ghost use Rattle.line.specs.Line.{Adds, Puts, decimalOf, terminationOf, countsOf, shownOf, wrote, writtenLine};
 use ground::Settled;
-use roll::Termination;
+use state::Termination;
 
 // Writes the word from `at` on, and gives the place after it.
 fn put(out: &mut [u8], at: usize, word: &[u8]) -> usize

@@ -1,16 +1,17 @@
 -- A spot's test, and the rectangle of the spots looked at (01, "Course sheet").
 use mathlib.Core.Bool.{Bool, true, false, _&&_, cond}
-use lib.Ieee.{Float, lt}
+use lib.Ieee.{Float, binary64, fits, lt}
 use Rattle.number.specs.Ops.{dec}
-use Rattle.number.specs.Number.{aboutOf}
+use Rattle.state.specs.State.{coordOk}
 use Rattle.look.specs.declared.Rect.{Rect}
 
--- finite, magnitude ≤ 1,000,000
-unfoldable pub coordOk : Float → Bool
-coordOk x = aboutOf (dec 1000000 1) x
+-- a double: every number of a run is one
+abbrev pub isDouble : Float → Bool
+isDouble x = fits binary64 x
 
+-- 01: "Before each look x and z get the same test" as the numbers of a state
 unfoldable pub spotOk : Float → Float → Bool
-spotOk x z = coordOk x && coordOk z
+spotOk x z = (isDouble x && isDouble z) && (coordOk x && coordOk z)
 
 -- the least and the greatest by value; of two equal zeros the first looked at stays
 unfoldable pub lesser : Float → Float → Float

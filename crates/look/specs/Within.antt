@@ -5,7 +5,8 @@ use mathlib.Core.Bool.{Bool, true, false, not, _&&_, cond}
 use lib.Dec.{T}
 use lib.Ieee.{Float, nan, inf, fin, lt, le, neg, round}
 use Rattle.look.specs.declared.Rect.{Rect}
-use Rattle.look.specs.Rect.{widen, widenIf, lesser, greater, spotOk, coordOk, noRect}
+use Rattle.state.specs.State.{coordOk}
+use Rattle.look.specs.Rect.{widen, widenIf, lesser, greater, isDouble, spotOk, noRect}
 use Rattle.number.specs.Number.{withinOf, finiteOf}
 use Rattle.number.specs.Order.{le-through, le-self, lt-le, nlt-le}
 use Rattle.look.specs.Tree.{Tree, done, look, step, Oracle, Spot, run, looks, exec, seen, note}
@@ -54,11 +55,28 @@ all-map P Q (s ∷ l) f h = (f s (h .0), all-map P Q l f (h .1))
 abbrev Ok : Float → Type 0
 Ok x = T (coordOk x)
 
+abbrev Double : Float → Type 0
+Double x = T (isDouble x)
+
+-- each spot looked at passed its test
+looks-pass : {A : Type 0} (o : Oracle) (t : Tree A) → All (λ s. T (spotOk (s .x) (s .z))) (looks o t)
+unfolding looks
+looks-pass o (done a) = tt
+looks-pass o (look x z c) = note-all (λ s. T (spotOk (s .x) (s .z))) (spotOk x z) (record { x = x; z = z }) _ (λ h. h) (looks-pass o (c (seen o x z)))
+looks-pass o (step t) = looks-pass o t
+
+pass-parts : (s : Spot) → T (spotOk (s .x) (s .z)) → Both Double s × Both Ok s
+unfolding spotOk
+pass-parts s h =
+    let p = and-parts (isDouble (s .x) && isDouble (s .z)) (coordOk (s .x) && coordOk (s .z)) h in
+    (and-parts (isDouble (s .x)) (isDouble (s .z)) (p .0), and-parts (coordOk (s .x)) (coordOk (s .z)) (p .1))
+
 looks-ok : {A : Type 0} (o : Oracle) (t : Tree A) → All (Both Ok) (looks o t)
-unfolding looks spotOk
-looks-ok o (done a) = tt
-looks-ok o (look x z c) = note-all (Both Ok) (spotOk x z) (record { x = x; z = z }) _ (and-parts (coordOk x) (coordOk z)) (looks-ok o (c (seen o x z)))
-looks-ok o (step t) = looks-ok o t
+looks-ok o t = all-map (λ s. T (spotOk (s .x) (s .z))) (Both Ok) (looks o t) (λ s h. pass-parts s h .1) (looks-pass o t)
+
+-- every look is at doubles
+pub looks-double : {A : Type 0} (o : Oracle) (t : Tree A) → All (λ s. T (isDouble (s .x)) × T (isDouble (s .z))) (looks o t)
+looks-double o t = all-map (λ s. T (spotOk (s .x) (s .z))) (Both Double) (looks o t) (λ s h. pass-parts s h .0) (looks-pass o t)
 
 looks-fin : {A : Type 0} (o : Oracle) (t : Tree A) → All FinSpot (looks o t)
 looks-fin o t = all-map (Both Ok) FinSpot (looks o t) (λ s h. (coord-fin (s .x) (h .0), coord-fin (s .z) (h .1))) (looks-ok o t)
@@ -150,20 +168,20 @@ edges-have P r (s ∷ l) f h = edges-have P (widen r (s .x) (s .z)) l (go (r .se
     go true = step-has P r s f (h .0)
     go false = (h .0 .0, h .0 .0, h .0 .1, h .0 .1)
 
--- ---- two courses that agree within the rectangle that the first run reports
+-- ---- two courses that agree within the rectangle that the first run reports: at each spot of doubles there
 abbrev pub AgreeIn : Oracle → Oracle → Rect → Type 0
-AgreeIn o p r = (x z : Float) → Within r x z → p x z ≡ o x z
+AgreeIn o p r = (x z : Float) → T (isDouble x) → T (isDouble z) → Within r x z → p x z ≡ o x z
 
-agree-on : (o p : Oracle) (r : Rect) (l : List Spot) → AgreeIn o p r → All (λ s. Within r (s .x) (s .z)) l → AgreeOn o p l
-agree-on o p r [] a h = tt
-agree-on o p r (s ∷ l) a h = (a (s .x) (s .z) (h .0), agree-on o p r l a (h .1))
+agree-on : (o p : Oracle) (r : Rect) (l : List Spot) → AgreeIn o p r → All (Both Double) l → All (λ s. Within r (s .x) (s .z)) l → AgreeOn o p l
+agree-on o p r [] a d h = tt
+agree-on o p r (s ∷ l) a d h = (a (s .x) (s .z) (d .0 .0) (d .0 .1) (h .0), agree-on o p r l a (d .1) (h .1))
 
 pub non-interference : {A : Type 0} (o p : Oracle) (r : Rect) (t : Tree A) → r .seen ≡ false → AgreeIn o p (exec o r t .rect)
     → (exec p r t ≡ exec o r t) × (looks p t ≡ looks o t)
 non-interference o p r t e a =
     let q = rectFrom r (looks o t) in
     let in-q : AgreeIn o p q = rw (exec-is o r t) at a in
-    same-run o p r t (agree-on o p q (looks o t) in-q (spots-within r (looks o t) e (looks-fin o t)))
+    same-run o p r t (agree-on o p q (looks o t) in-q (looks-double o t) (spots-within r (looks o t) e (looks-fin o t)))
 
 -- ---- no rectangle that holds every spot is smaller
 abbrev pub Inside : Rect → Rect → Type 0
@@ -229,7 +247,7 @@ no-look-zero o t e = rw (rect-of-looks o t, e)
 pub edges-ok : {A : Type 0} (o : Oracle) (t : Tree A) → Edges (λ x. T (coordOk x)) (exec o noRect t .rect)
 edges-ok o t = rw (rect-of-looks o t) (edges-have Ok noRect (looks o t) no-rect-ok (looks-ok o t))
 
--- a second course that agrees with the first at every spot within the rectangle that the first run reports gives the same run
+-- a second course that agrees with the first at every spot of doubles within the rectangle that the first run reports gives the same run
 pub agree-within : {A : Type 0} (o p : Oracle) (t : Tree A) → AgreeIn o p (exec o noRect t .rect)
     → (exec p noRect t ≡ exec o noRect t) × (looks p t ≡ looks o t)
 agree-within o p t a = non-interference o p noRect t unseen a

@@ -1,6 +1,6 @@
 // Looks at a course: the spot's test, what comes of a look, and the rectangle of the spots looked at (01, "Course sheet").
 ghost use mathlib.Core.Path.{_≡_};
-ghost use Rattle.look.specs.Rect.{lesser, greater, widen, coordOk, spotOk, noRect};
+ghost use Rattle.look.specs.Rect.{lesser, greater, widen, spotOk, noRect};
 use surface::GroundSample;
 
 // The least and greatest x and z of the spots looked at so far; `seen` is whether there was one.
@@ -70,14 +70,12 @@ pub fn no_rect() -> Rect
     }
 }
 
-pub fn coord_ok(x: f64) -> bool
-    ensures { λ r. ⌜ r ≡ coordOk x ⌝ }
-{
-    number::within(-1000000.0, 1000000.0, x)
-}
-
 pub fn spot_ok(x: f64, z: f64) -> bool
     ensures { λ r. ⌜ r ≡ spotOk x z ⌝ }
 {
-    if coord_ok(x) { coord_ok(z) } else { false }
+    if state::coord_ok(x) {
+        state::coord_ok(z)
+    } else {
+        false
+    }
 }

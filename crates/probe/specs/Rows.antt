@@ -14,7 +14,7 @@ use Rattle.surface.specs.declared.GroundSample.{GroundSample}
 use Rattle.rk4.specs.declared.State.{State}
 use Rattle.rk4.specs.declared.Motion.{Motion}
 use Rattle.slide.specs.declared.Patch.{Patch}
-use Rattle.slide.specs.declared.Phase.{Phase}
+use Rattle.state.specs.declared.Phase.{Phase}
 use Rattle.fields.specs.Fields.{doubleAt, vecAt}
 
 -- kind 1 is Penner2002, any other double Constant

@@ -12,13 +12,13 @@ use lib.Dec.{eqb, T}
 use lib.Ieee.{Float, ofBits, le, eq, neg, round}
 use Rattle.number.specs.Number.{withinOf, aboutOf, finiteOf}
 use Rattle.number.specs.Order.{within-of, within-lo, within-hi, le-through}
-use Rattle.look.specs.Rect.{coordOk}
+use Rattle.state.specs.State.{coordOk}
 use Rattle.number.specs.Ops.{dec}
-use Rattle.surface.specs.declared.BallState.{BallState}
+use Rattle.state.specs.declared.BallState.{BallState}
 use Rattle.surface.specs.declared.GroundSample.{GroundSample}
 use Rattle.aero.specs.declared.AeroParams.{AeroParams}
-use Rattle.slide.specs.declared.Phase.{Phase}
-use Rattle.slide.specs.declared.Phase.the-variants.{Hop as InHop, Slide as InSlide, Roll as InRoll}
+use Rattle.state.specs.declared.Phase.{Phase}
+use Rattle.state.specs.declared.Phase.the-variants.{Hop as InHop, Slide as InSlide, Roll as InRoll}
 use Rattle.vector.specs.declared.DVec3.{DVec3}
 use Rattle.aero.specs.declared.BallModel.{BallModel}
 use Rattle.look.specs.Rect.{noRect}
@@ -34,7 +34,8 @@ use Rattle.search.specs.declared.Bracket.{Bracket}
 use Rattle.search.specs.declared.Search.{Search}
 use Rattle.search.specs.declared.RootStep.{RootStep}
 use Rattle.search.specs.declared.RootStep.the-variants.{Next, Found}
-use Rattle.tally.specs.Language.{M, inM, if_then_else_, Ran, Outcome, goes, stops, phaseNumber, vecOk, stateOk}
+use Rattle.state.specs.State.{vecOk, stateOk}
+use Rattle.tally.specs.Language.{M, inM, if_then_else_, Ran, Outcome, goes, stops, phaseNumber}
 use Rattle.tally.specs.declared.Conditions.{Conditions}
 use Rattle.arrival.specs.Arrival.{clearance, clearanceAt, subStep, crossingFrom, firstCrossing, endValue, crossingTime, hopArrival}
 use Rattle.arrival.specs.declared.Arc.{Arc}
@@ -45,8 +46,8 @@ use Rattle.hop.specs.declared.Way.the-variants.{Arrived, Late}
 use Rattle.roll.specs.Roll.{groundStep, heldOf, stepOn}
 use Rattle.roll.specs.declared.Roll.{Roll}
 use Rattle.roll.specs.declared.Ending.{Ending}
-use Rattle.roll.specs.declared.Termination.{Termination}
-use Rattle.roll.specs.declared.Termination.the-variants.{Nothing, Rest, MaxTime, MaxImpacts}
+use Rattle.state.specs.declared.Termination.{Termination}
+use Rattle.state.specs.declared.Termination.the-variants.{Nothing, Rest, MaxTime, MaxImpacts}
 use Rattle.ground_phase.specs.GroundPhase.{timeUp, groundFrom, ground}
 use Rattle.strike.specs.Strike.{strike, rebounds, diesOut, fly, drop}
 use Rattle.strike.specs.declared.Struck.{Struck}

@@ -8,14 +8,15 @@ use lib.Dec.{ltb}
 use lib.Ieee.{Float}
 use lib.ListN.{length, take, length-append, length-take}
 use borrow.Author.Tests.{ltb-true}
-use Rattle.surface.specs.declared.BallState.{BallState}
+use Rattle.state.specs.declared.BallState.{BallState}
 use Rattle.surface.specs.declared.GroundSample.{GroundSample}
-use Rattle.slide.specs.declared.Phase.{Phase}
+use Rattle.state.specs.declared.Phase.{Phase}
 use Rattle.look.specs.Rect.{spotOk}
 use Rattle.look.specs.Tree.{Tree, Oracle, run, run-bind, bind, answer}
 use Rattle.look.specs.Resume.{steps as stepsOf, steps-bind}
 use Rattle.records.specs.Records.{Records, pick, put, full, pushed}
-use Rattle.tally.specs.Language.{M, Log, Lent, Outcome, goes, stops, Ran, ran, onward, _>>=_, pure, stopWith, if_then_else_, when, look, test, pushPoint, pushContact, mark, truncate, countStep, stepsLeft, loop, Pass, again, over, stateOk, pointOf, contactOf, point, contact, seenAt}
+use Rattle.state.specs.State.{stateOk}
+use Rattle.tally.specs.Language.{M, Log, Lent, Outcome, goes, stops, Ran, ran, onward, _>>=_, pure, stopWith, if_then_else_, when, look, test, pushPoint, pushContact, mark, truncate, countStep, stepsLeft, loop, Pass, again, over, pointOf, contactOf, point, contact, seenAt}
 use Rattle.tally.specs.declared.Conditions.{Conditions}
 
 abbrev pub Each : (List Float → Type 0) → Records → Type 0

@@ -10,17 +10,18 @@ use lib.ListN.{length}
 use borrow.Author.Tests.{eqb-true, eqb-false, ne-eqb}
 use Rattle.number.specs.Ops.{dec}
 use Rattle.number.specs.Number.{aboutOf, finiteOf}
-use Rattle.surface.specs.declared.BallState.{BallState}
+use Rattle.state.specs.declared.BallState.{BallState}
 use Rattle.aero.specs.declared.BallModel.{BallModel}
-use Rattle.look.specs.Rect.{coordOk, noRect}
+use Rattle.state.specs.State.{coordOk}
+use Rattle.look.specs.Rect.{noRect}
 use Rattle.look.specs.Tree.{exec}
 use Rattle.look.specs.Resume.{steps as stepsOf}
 use Rattle.look.specs.Within.{Edges, coord-fin, edges-ok, no-rect-ok}
 use Rattle.look.specs.declared.Rect.{Rect}
 use Rattle.course.specs.Sheet.{courseOf}
 use Rattle.tally.specs.declared.GroundPhysics.{GroundPhysics}
-use Rattle.roll.specs.declared.Termination.{Termination}
-use Rattle.roll.specs.declared.Termination.the-variants.{Nothing, Rest, MaxTime, MaxImpacts}
+use Rattle.state.specs.declared.Termination.{Termination}
+use Rattle.state.specs.declared.Termination.the-variants.{Nothing, Rest, MaxTime, MaxImpacts}
 use Rattle.ground.specs.Tests.{refusalOf}
 use Rattle.ground.specs.Passed.{refused-by, settle-sheet}
 use Rattle.ground.specs.Settle.{Result, reportOf, runOf, settleOf}

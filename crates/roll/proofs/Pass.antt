@@ -4,9 +4,9 @@ use mathlib.Core.Path.{_≡_}
 use mathlib.Core.Bool.{Bool, true, false, not}
 use mathlib.Core.List.{List}
 use lib.Ieee.{Float}
-use Rattle.surface.specs.declared.BallState.{BallState}
+use Rattle.state.specs.declared.BallState.{BallState}
 use Rattle.surface.specs.declared.GroundSample.{GroundSample}
-use Rattle.slide.specs.declared.Phase.the-variants.{Roll as InRoll}
+use Rattle.state.specs.declared.Phase.the-variants.{Roll as InRoll}
 use Rattle.slide.specs.declared.Stepped.{Stepped}
 use Rattle.look.specs.Tree.{Oracle, exec, did, Did, lookTree}
 use Rattle.look.specs.declared.Rect.{Rect}
@@ -16,14 +16,15 @@ use Rattle.records.specs.Records.{asPut, recs}
 use Rattle.records.specs.declared.Pushed.{Pushed}
 use Rattle.records.specs.declared.Pushed.the-variants.{Full, Done}
 use Rattle.tally.specs.Times.{nextAfter}
-use Rattle.tally.specs.Language.{M, Ran, ran, Log, stops, Pass, again, over, _>>=_, _>>_, pure, if_then_else_, pushPoint, pointOf, stateOk, stepped, tested, withPoints}
+use Rattle.state.specs.State.{stateOk}
+use Rattle.tally.specs.Language.{M, Ran, ran, Log, stops, Pass, again, over, _>>=_, _>>_, pure, if_then_else_, pushPoint, pointOf, stepped, tested, withPoints}
 use Rattle.tally.specs.Contracts.{pushedIf}
 use Rattle.tally.specs.Words.{step-counted, test-ok, test-bad, look-saw, look-off, due-put, due-full}
 use Rattle.tally.specs.declared.Conditions.{Conditions}
 use Rattle.roll.specs.Roll.{ending, roll, stepOn, lastOf, pointDue, heldOf, putDown, groundStep}
 use Rattle.roll.specs.declared.Roll.{Roll}
 use Rattle.roll.specs.declared.Ending.{Ending}
-use Rattle.roll.specs.declared.Termination.the-variants.{Rest}
+use Rattle.state.specs.declared.Termination.the-variants.{Rest}
 
 -- what a pass does with a state that passed its test
 abbrev pub nextOf : Roll → Stepped → Bool → GroundSample → BallState → M (Pass Roll Ending)

@@ -6,21 +6,21 @@ use lib.Ieee.{Float}
 use Rattle.number.specs.Ops.{_⊖_}
 use Rattle.number.specs.Number.{minOf}
 use Rattle.vector.specs.Vec.{zero3, sameVec}
-use Rattle.surface.specs.declared.BallState.{BallState}
+use Rattle.state.specs.declared.BallState.{BallState}
 use Rattle.surface.specs.declared.GroundSample.{GroundSample}
 use Rattle.aero.specs.Aero.{radiusOf}
 use Rattle.contact.specs.Contact.{ontoOf, sampleHolds}
 use Rattle.slide.specs.ContactStep.{contactStepOf}
-use Rattle.slide.specs.declared.Phase.{Phase}
-use Rattle.slide.specs.declared.Phase.the-variants.{Hop, Slide, Roll as InRoll}
+use Rattle.state.specs.declared.Phase.{Phase}
+use Rattle.state.specs.declared.Phase.the-variants.{Hop, Slide, Roll as InRoll}
 use Rattle.slide.specs.declared.Stepped.{Stepped}
 use Rattle.tally.specs.Times.{isDue, nextAfter}
 use Rattle.tally.specs.Language.{M, _>>=_, _>>_, pure, if_then_else_, when, countStep, look, test, pushPoint, Pass, again, over}
 use Rattle.tally.specs.declared.Conditions.{Conditions}
 use Rattle.roll.specs.declared.Roll.{Roll}
 use Rattle.roll.specs.declared.Ending.{Ending}
-use Rattle.roll.specs.declared.Termination.{Termination}
-use Rattle.roll.specs.declared.Termination.the-variants.{Rest}
+use Rattle.state.specs.declared.Termination.{Termination}
+use Rattle.state.specs.declared.Termination.the-variants.{Rest}
 
 abbrev pub ending : Termination → BallState → Ending
 ending h s = record { how = h; state = s }

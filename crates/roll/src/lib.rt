@@ -7,21 +7,14 @@ ghost use Rattle.roll.specs.Roll.{stepOn, lastOf, pointDue, heldOf, putD
 ghost use Rattle.roll.specs.Contracts.{RollPasses};
 use look::Look;
 use records::Pushed;
-use slide::Phase;
 use slide::Stepped;
-use surface::BallState;
+use state::BallState;
+use state::Phase;
+use state::Termination;
 use surface::GroundSample;
 use tally::Conditions;
 use tally::Tally;
 use vector::DVec3;
-
-// How a settle ended.
-pub enum Termination {
-    Nothing,
-    Rest,
-    MaxTime,
-    MaxImpacts,
-}
 
 // How a settle that went well ended, and its final state.
 pub struct Ending {
@@ -159,7 +152,7 @@ pub fn ground_step(
         };
     };
     let b = put_down(c, g, s, under);
-    if !tally::state_ok(b) {
+    if !state::state_ok(b) {
         return RollPass {
             step: RollStep::Ended(22),
             tally: t3,

@@ -7,7 +7,7 @@ use Rattle.vector.specs.declared.DVec3.{DVec3}
 use Rattle.vector.specs.Vec.{zero3, vadd, vsub, vscale, vdivs, vdot, vcross, vlength, vnormalize, vnormalizeOrZero}
 use Rattle.surface.specs.declared.Surface.{Surface}
 use Rattle.surface.specs.declared.GroundSample.{GroundSample}
-use Rattle.surface.specs.declared.BallState.{BallState}
+use Rattle.state.specs.declared.BallState.{BallState}
 use Rattle.surface.specs.Surface.{rollingFriction}
 use Rattle.aero.specs.declared.BallModel.{BallModel}
 use Rattle.aero.specs.Aero.{radiusOf, gOf}
@@ -19,7 +19,7 @@ use Rattle.slide.specs.declared.Patch.{Patch}
 use Rattle.slide.specs.declared.RollPatch.{RollPatch}
 use Rattle.slide.specs.declared.Stepped.{Stepped}
 use Rattle.slide.specs.declared.Slid.{Slid}
-use Rattle.slide.specs.declared.Phase.the-variants.{Slide, Roll}
+use Rattle.state.specs.declared.Phase.the-variants.{Slide, Roll}
 use Rattle.slide.specs.Slide.{slipEps, slideOf}
 
 -- `pivot_accel`: pivot friction against the spin w about the normal

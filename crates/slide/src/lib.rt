@@ -10,7 +10,8 @@ use contact::Locked;
 use rk4::Motion;
 use search::Bracket;
 use search::RootStep;
-use surface::BallState;
+use state::BallState;
+use state::Phase;
 use surface::GroundSample;
 use surface::Surface;
 use vector::DVec3;
@@ -38,12 +39,6 @@ pub struct Slid {
     pub motion: Motion,
     pub time: f64,
     pub rolls: bool,
-}
-
-pub enum Phase {
-    Hop,
-    Slide,
-    Roll,
 }
 
 // The state after a ground step, the phase over it, and whether the ball ends it rolling.

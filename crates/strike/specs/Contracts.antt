@@ -3,7 +3,7 @@ use Prim.Native.Nat.{ℕ}
 use mathlib.Core.Bool.{Bool}
 use mathlib.Core.List.{List}
 use lib.Ieee.{Float}
-use Rattle.surface.specs.declared.BallState.{BallState}
+use Rattle.state.specs.declared.BallState.{BallState}
 use Rattle.look.specs.Tree.{Oracle}
 use Rattle.tally.specs.Language.{Outcome, goes, stops}
 use Rattle.tally.specs.Contracts.{Runs, RunsBoth}

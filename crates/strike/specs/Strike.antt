@@ -3,12 +3,12 @@ use mathlib.Core.Bool.{Bool, _&&_, cond, not}
 use lib.Ieee.{le, lt}
 use Rattle.number.specs.Ops.{_⊗_, dec}
 use Rattle.vector.specs.Vec.{vsub, vscale, vdot, vlength, vnormalize}
-use Rattle.surface.specs.declared.BallState.{BallState}
+use Rattle.state.specs.declared.BallState.{BallState}
 use Rattle.surface.specs.declared.GroundSample.{GroundSample}
 use Rattle.aero.specs.Aero.{gOf, radiusOf}
 use Rattle.impact.specs.Impact.{impactOf}
 use Rattle.contact.specs.Contact.{slipOf, lockedOf, hopsDieOut}
-use Rattle.slide.specs.declared.Phase.the-variants.{Hop as InHop}
+use Rattle.state.specs.declared.Phase.the-variants.{Hop as InHop}
 use Rattle.tally.specs.Language.{M, _>>=_, _>>_, pure, if_then_else_, look, test, pushPoint, pushContact, mark, truncate}
 use Rattle.tally.specs.declared.Conditions.{Conditions}
 use Rattle.hop.specs.Hop.{hop}

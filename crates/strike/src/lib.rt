@@ -9,8 +9,8 @@ use hop::HopEnd;
 use hop::Way;
 use look::Look;
 use records::Pushed;
-use slide::Phase;
-use surface::BallState;
+use state::BallState;
+use state::Phase;
 use surface::GroundSample;
 use tally::Conditions;
 use tally::Tally;
@@ -52,7 +52,7 @@ pub fn strike(sheet: &[u8], index: &[u64], c: Conditions, state: BallState, t: T
     };
     let ball = c.ball;
     let out = impact::impact(state, at, ball);
-    if !tally::state_ok(out) {
+    if !state::state_ok(out) {
         return StrikeOut {
             end: StrikeEnd::Off,
             tally: t1,
@@ -237,7 +237,7 @@ pub fn drop_to_ground(
 {
     let at = hit.at;
     let leave = leave_of(c, hit);
-    if !tally::state_ok(leave) {
+    if !state::state_ok(leave) {
         return DropOut {
             end: DropEnd::Ended(22),
             contacts: n,

@@ -47,14 +47,6 @@ pub struct GroundSample {
     pub number: u64,
 }
 
-// Time (s), position (m), velocity (m/s) and angular velocity (rad/s) of the ball.
-pub struct BallState {
-    pub time: f64,
-    pub pos: DVec3,
-    pub vel: DVec3,
-    pub spin: DVec3,
-}
-
 impl Restitution {
     // Coefficient of restitution at the given normal impact speed (m/s), whose sign is ignored.
     pub fn coefficient_at(self, normal_speed: f64) -> f64

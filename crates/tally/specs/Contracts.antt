@@ -5,7 +5,7 @@ use mathlib.Core.Bool.{Bool}
 use mathlib.Core.List.{List}
 use lib.ListN.{length}
 use lib.Ieee.{Float}
-use Rattle.surface.specs.declared.BallState.{BallState}
+use Rattle.state.specs.declared.BallState.{BallState}
 use Rattle.look.specs.Tree.{Oracle, exec, did}
 use Rattle.look.specs.declared.Rect.{Rect}
 use Rattle.records.specs.Records.{Records, Put, put, pushed, recs, asPut, Clean}

@@ -1,18 +1,17 @@
 -- The language in which a settle is defined: looks, tests, pushes and counted steps, over a log, with an exit by a number.
 use Prim.Native.Nat.{ℕ, zero, suc, _+_, _-_}
-use mathlib.Core.Bool.{Bool, true, false, _&&_}
+use mathlib.Core.Bool.{Bool, true, false}
 use mathlib.Core.List.{List, [], _∷_}
 use lib.IntN.{pos}
 use lib.Ieee.{Float, ofInt, binary64}
 use lib.ListN.{length, take}
 use Rattle.number.specs.Ops.{dec}
-use Rattle.vector.specs.declared.DVec3.{DVec3}
-use Rattle.surface.specs.declared.BallState.{BallState}
+use Rattle.state.specs.declared.BallState.{BallState}
 use Rattle.surface.specs.declared.GroundSample.{GroundSample}
-use Rattle.slide.specs.declared.Phase.{Phase}
-use Rattle.slide.specs.declared.Phase.the-variants.{Hop, Slide, Roll}
+use Rattle.state.specs.declared.Phase.{Phase}
+use Rattle.state.specs.declared.Phase.the-variants.{Hop, Slide, Roll}
 use Rattle.search.specs.Search.{Does}
-use Rattle.look.specs.Rect.{coordOk}
+use Rattle.state.specs.State.{stateOk}
 use Rattle.look.specs.Tree.{Tree, done, step, bind, lookTree}
 use Rattle.look.specs.declared.Look.{Look}
 use Rattle.look.specs.declared.Look.the-variants.{Off, Saw}
@@ -79,16 +78,6 @@ if_then_else_ false a b = b
 
 unfoldable pub when : Bool → M Unit → M Unit
 when b m = if b then m else pure tt
-
--- ---- test 22
-
--- 01, of each component: "finite, magnitude ≤ 1,000,000"
-unfoldable pub vecOk : DVec3 → Bool
-vecOk v = coordOk v.x && (coordOk v.y && coordOk v.z)
-
--- 01: "The test is of time and of each component of position, velocity and spin"
-unfoldable pub stateOk : BallState → Bool
-stateOk s = coordOk s.time && (vecOk s.pos && (vecOk s.vel && vecOk s.spin))
 
 -- ---- records
 

@@ -6,9 +6,9 @@ use mathlib.Core.Bool.{Bool, true, false}
 use mathlib.Core.List.{List}
 use lib.Ieee.{Float}
 use lib.ListN.{length, take}
-use Rattle.surface.specs.declared.BallState.{BallState}
+use Rattle.state.specs.declared.BallState.{BallState}
 use Rattle.surface.specs.declared.GroundSample.{GroundSample}
-use Rattle.slide.specs.declared.Phase.{Phase}
+use Rattle.state.specs.declared.Phase.{Phase}
 use Rattle.look.specs.Tree.{bind, Oracle, exec, did, Did, ends, lookTree}
 use Rattle.look.specs.declared.Rect.{Rect}
 use Rattle.look.specs.declared.Look.{Look}
@@ -18,7 +18,8 @@ use Rattle.records.specs.declared.Pushed.{Pushed}
 use Rattle.records.specs.declared.Pushed.the-variants.{Full, Done}
 use Rattle.tally.specs.declared.Conditions.{Conditions}
 use Rattle.tally.specs.Contracts.{pushedIf, overBy}
-use Rattle.tally.specs.Language.{M, Ran, ran, Log, Outcome, goes, stops, onward, _>>=_, when, stateOk, pointOf, contactOf, seenAt, stepped, tested, withPoints, withContacts, pushContact, countStep, look, test, pushPoint, mark, truncate, stepsLeft, Pass, again, loop}
+use Rattle.state.specs.State.{stateOk}
+use Rattle.tally.specs.Language.{M, Ran, ran, Log, Outcome, goes, stops, onward, _>>=_, when, pointOf, contactOf, seenAt, stepped, tested, withPoints, withContacts, pushContact, countStep, look, test, pushPoint, mark, truncate, stepsLeft, Pass, again, loop}
 
 module _ {A B : Type 0} (o : Oracle) (q : Rect) (m : M A) (k : A → M B) (l : Log) {x : Outcome A} {l' : Log} {q' : Rect} where
   -- the callee went on

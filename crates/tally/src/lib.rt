@@ -4,13 +4,13 @@ ghost use Prim.Native.Nat.{_<_};
 ghost use Rattle.records.specs.Records.{Pushes};
 ghost use Rattle.tally.specs.Physics.{physicsNew};
 ghost use Rattle.tally.specs.Times.{isLate, isDue, nextAfter};
-ghost use Rattle.tally.specs.Language.{vecOk, stateOk, phaseNumber, pointOf, contactOf};
+ghost use Rattle.tally.specs.Language.{phaseNumber, pointOf, contactOf};
 ghost use Rattle.tally.specs.Contracts.{steppedT, testedT, lookedT, countedT, PushesIf};
 use aero::BallModel;
 use look::Rect;
 use records::Pushed;
-use slide::Phase;
-use surface::BallState;
+use state::BallState;
+use state::Phase;
 use surface::GroundSample;
 use vector::DVec3;
 
@@ -57,39 +57,7 @@ pub struct Conditions {
     pub t_end: f64,
 }
 
-// ---- tests
-
-fn vec_ok(v: DVec3) -> bool
-    ensures { λ r. ⌜ r ≡ vecOk v ⌝ }
-{
-    if look::coord_ok(v.x) {
-        if look::coord_ok(v.y) {
-            look::coord_ok(v.z)
-        } else {
-            false
-        }
-    } else {
-        false
-    }
-}
-
-// Test 22.
-pub fn state_ok(s: BallState) -> bool
-    ensures { λ r. ⌜ r ≡ stateOk s ⌝ }
-{
-    let pos = s.pos;
-    let vel = s.vel;
-    let spin = s.spin;
-    if look::coord_ok(s.time) {
-        if vec_ok(pos) {
-            if vec_ok(vel) { vec_ok(spin) } else { false }
-        } else {
-            false
-        }
-    } else {
-        false
-    }
-}
+// ---- times
 
 pub fn is_late(t: f64, t_end: f64) -> bool
     ensures { λ r. ⌜ r ≡ isLate t «t_end» ⌝ }

@@ -7,8 +7,8 @@ use lib.Ieee.{Float}
 use lib.ListN.{length}
 use native.Mathlib.Omega.{arith}
 use borrow.Author.Tests.{leb-true, leb-false}
-use Rattle.surface.specs.declared.BallState.{BallState}
-use Rattle.slide.specs.declared.Phase.the-variants.{Hop as InHop}
+use Rattle.state.specs.declared.BallState.{BallState}
+use Rattle.state.specs.declared.Phase.the-variants.{Hop as InHop}
 use Rattle.look.specs.Rect.{noRect}
 use Rattle.look.specs.Tree.{bind, Oracle, exec, did, Did, ends}
 use Rattle.look.specs.declared.Rect.{Rect}
@@ -25,7 +25,7 @@ use Rattle.hop.specs.declared.Way.{Way}
 use Rattle.hop.specs.declared.Way.the-variants.{Arrived, Late}
 use Rattle.roll.specs.Roll.{ending}
 use Rattle.roll.specs.declared.Ending.{Ending}
-use Rattle.roll.specs.declared.Termination.the-variants.{MaxImpacts}
+use Rattle.state.specs.declared.Termination.the-variants.{MaxImpacts}
 use Rattle.ground_phase.specs.GroundPhase.{timeUp, ground}
 use Rattle.ground_phase.specs.Contracts.{endedBy}
 use Rattle.ground_phase.specs.declared.GroundOut.{GroundOut}

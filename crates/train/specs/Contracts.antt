@@ -4,7 +4,7 @@ use mathlib.Core.Bool.{Bool, true, false}
 use mathlib.Core.List.{List}
 use lib.Dec.{leb}
 use lib.Ieee.{Float}
-use Rattle.surface.specs.declared.BallState.{BallState}
+use Rattle.state.specs.declared.BallState.{BallState}
 use Rattle.look.specs.Rect.{noRect}
 use Rattle.look.specs.Tree.{Oracle}
 use Rattle.tally.specs.Contracts.{RunsBoth}

@@ -1,14 +1,14 @@
 -- The train of impacts, and then the ground: ground.rs, fn settle, with the tests and the count of steps that 01 adds.
 use Prim.Native.Nat.{ℕ, zero, suc, _-_}
 use mathlib.Core.Bool.{not}
-use Rattle.surface.specs.declared.BallState.{BallState}
-use Rattle.slide.specs.declared.Phase.the-variants.{Hop as InHop}
+use Rattle.state.specs.declared.BallState.{BallState}
+use Rattle.state.specs.declared.Phase.the-variants.{Hop as InHop}
 use Rattle.tally.specs.Language.{M, _>>=_, _>>_, pure, if_then_else_, pushPoint, pushContact}
 use Rattle.tally.specs.declared.Conditions.{Conditions}
 use Rattle.hop.specs.declared.Way.the-variants.{Arrived, Late}
 use Rattle.roll.specs.Roll.{ending}
 use Rattle.roll.specs.declared.Ending.{Ending}
-use Rattle.roll.specs.declared.Termination.the-variants.{MaxImpacts}
+use Rattle.state.specs.declared.Termination.the-variants.{MaxImpacts}
 use Rattle.ground_phase.specs.GroundPhase.{timeUp, ground}
 use Rattle.strike.specs.Strike.{strike, rebounds, fly, drop}
 use Rattle.strike.specs.declared.Struck.{Struck}

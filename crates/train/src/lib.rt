@@ -9,14 +9,14 @@ use ground_phase::RunEnd;
 use hop::Way;
 use records::Pushed;
 use roll::Ending;
-use roll::Termination;
-use slide::Phase;
+use state::BallState;
+use state::Phase;
+use state::Termination;
 use strike::DropEnd;
 use strike::Flown;
 use strike::FlyEnd;
 use strike::StrikeEnd;
 use strike::Struck;
-use surface::BallState;
 use tally::Conditions;
 use tally::Tally;
 

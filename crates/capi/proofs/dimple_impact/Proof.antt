@@ -6,7 +6,7 @@ use lib.Ieee.{Float}
 use lib.ListN.{length}
 use borrow.Author.Needs.{needs}
 use borrow.Author.Tests.{eq-eqb, ne-eqb}
-use Rattle.surface.specs.declared.BallState.{BallState}
+use Rattle.state.specs.declared.BallState.{BallState}
 use Rattle.aero.specs.declared.BallModel.{BallModel}
 use Rattle.ground.specs.Step.{impactAnswer}
 use Rattle.ground.specs.declared.ImpactOut.{ImpactOut}

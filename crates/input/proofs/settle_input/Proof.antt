@@ -8,7 +8,7 @@ use lib.ListN.{length, drop, take, length-drop}
 use lib.Seq.{take-all}
 use borrow.Author.Needs.{needs}
 use borrow.Author.Tests.{le-leb, lt-leb}
-use Rattle.surface.specs.declared.BallState.{BallState}
+use Rattle.state.specs.declared.BallState.{BallState}
 use Rattle.aero.specs.declared.BallModel.{BallModel}
 use Rattle.tally.specs.declared.GroundPhysics.{GroundPhysics}
 use Rattle.ground.specs.Settle.{Result, result, refusal, settleOf}

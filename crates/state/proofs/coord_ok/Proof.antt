@@ -1,8 +1,8 @@
 -- coord_ok: finite, magnitude ≤ 1,000,000.
 use lib.Ieee.{ofBits, round, neg}
-use Rattle.look.specs.Rect.{coordOk}
-use Rattle.look.proofs.coord_ok.Statement.{statement}
-use Rattle.look.proofs.coord_ok.Tie as tie
+use Rattle.state.specs.State.{coordOk}
+use Rattle.state.proofs.coord_ok.Statement.{statement}
+use Rattle.state.proofs.coord_ok.Tie as tie
 
 returns : tie.Need-returns
 unfolding coordOk ofBits round neg

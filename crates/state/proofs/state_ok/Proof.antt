@@ -1,7 +1,7 @@
 -- Test 22: the time and each component.
-use Rattle.tally.specs.Language.{stateOk}
-use Rattle.tally.proofs.state_ok.Statement.{statement}
-use Rattle.tally.proofs.state_ok.Tie as tie
+use Rattle.state.specs.State.{stateOk}
+use Rattle.state.proofs.state_ok.Statement.{statement}
+use Rattle.state.proofs.state_ok.Tie as tie
 
 returns : tie.Need-returns
 unfolding stateOk

@@ -1,7 +1,7 @@
 -- Each component passes.
-use Rattle.tally.specs.Language.{vecOk}
-use Rattle.tally.proofs.vec_ok.Statement.{statement}
-use Rattle.tally.proofs.vec_ok.Tie as tie
+use Rattle.state.specs.State.{vecOk}
+use Rattle.state.proofs.vec_ok.Statement.{statement}
+use Rattle.state.proofs.vec_ok.Tie as tie
 
 returns : tie.Need-returns
 unfolding vecOk
