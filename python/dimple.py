@@ -213,7 +213,7 @@ def height(course, x, z):
 
 def on_published_ground(run, rectangle):
     """Whether the run stayed within a published rectangle. Then its result gives away nothing of the ground outside: two courses that agree
-    within the rectangle that a run reports give the same result (`demand-3` in crates/ground/specs/Demand.antt), and the reported one
+    within the rectangle that a run reports give the same result (`demand-3` in crates/promises/specs/Demand.antt), and the reported one
     holds every spot that was looked at."""
     r, q = run.rectangle, Rectangle(*rectangle)
     return q.x_lo <= r.x_lo and r.x_hi <= q.x_hi and q.z_lo <= r.z_lo and r.z_hi <= q.z_hi

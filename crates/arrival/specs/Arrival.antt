@@ -11,7 +11,7 @@ use Rattle.vector.specs.Vec.{vec}
 use Rattle.vector.specs.declared.DVec3.{DVec3}
 use Rattle.state.specs.declared.BallState.{BallState}
 use Rattle.rk4.specs.declared.State.{State}
-use Rattle.contact.specs.Arc.{hermiteOf, parabolaOf, dropTime}
+use Rattle.flight.specs.Arc.{hermiteOf, parabolaOf, dropTime}
 use Rattle.search.specs.Search.{findRoot}
 use Rattle.search.specs.declared.Bracket.{Bracket}
 use Rattle.tally.specs.Language.{M, _>>=_, if_then_else_, pure, look, inM}

@@ -9,7 +9,7 @@ use lib.ListN.{length, length-append}
 use Rattle.number.specs.Ops.{_⊖_}
 use Rattle.number.specs.Number.{clampOf}
 use Rattle.vector.specs.declared.DVec3.{DVec3}
-use Rattle.contact.specs.Arc.{dropTime, drop-fits}
+use Rattle.flight.specs.Arc.{dropTime, drop-fits}
 use Rattle.look.specs.Rect.{spotOk}
 use Rattle.look.specs.Tree.{Oracle, run, looks, bind, note, answer, run-bind, looks-bind}
 use Rattle.search.specs.Search.{findRoot}

@@ -33,9 +33,9 @@ fn arc_at(arc: Arc, tau: f64) -> State
     let a = arc.a;
     let b = arc.b;
     if arc.air_density > 0.0 {
-        contact::hermite(a, b, arc.h, tau)
+        flight::hermite(a, b, arc.h, tau)
     } else {
-        contact::parabola(a, tau)
+        flight::parabola(a, tau)
     }
 }
 
@@ -281,7 +281,7 @@ fn guess_in(arc: Arc, b: Bracket, end_height: f64) -> f64
     let a = arc.a;
     let pos = a.pos;
     let vel = a.vel;
-    let time = contact::drop_time(pos.y - end_height, vel.y);
+    let time = flight::drop_time(pos.y - end_height, vel.y);
     number::clamp(time, b.lo, b.hi)
 }
 

@@ -1,4 +1,4 @@
--- Demand 3 (ground, specs/Demand.antt) applied: a course with no patch, and one with a patch that the ball does not reach. Assumes nothing.
+-- Demand 3 (promises, specs/Demand.antt) applied: a course with no patch, and one with a patch that the ball does not reach. Assumes nothing.
 use Prim.Native.Nat.{ℕ, _≤_}
 use native.Mathlib.Omega.{arith}
 use mathlib.Core.Path.{_≡_, refl}
@@ -14,13 +14,13 @@ use Rattle.number.specs.Order.{le-through}
 use Rattle.vector.specs.Vec.{vec, zero3}
 use Rattle.surface.specs.Surface.{green}
 use Rattle.state.specs.declared.BallState.{BallState}
-use Rattle.aero.specs.Aero.{tour}
-use Rattle.course.specs.Sheet.{Accepted, little, first, covers, restitutionOf, lawOf, surfaceOf, patchSample, plainSample, courseOf}
-use Rattle.tally.specs.Physics.{physicsNew}
+use Rattle.octets.specs.Octets.{little}
+use Rattle.course.specs.Sheet.{Accepted, first, covers, restitutionOf, lawOf, surfaceOf, patchSample, plainSample, courseOf}
+use Rattle.shot.specs.Physics.{physicsNew}
 use Rattle.ground.specs.Settle.{settleOf}
-use Rattle.ground.specs.Demand.{demand-3}
+use Rattle.promises.specs.Demand.{demand-3}
 use Rattle.bench.specs.Definitions.{definitions}
-use Rattle.bench.specs.Given.{bytesOf, bits, surfaceFields, sheetS, atZero}
+use Rattle.bench.specs.Given.{bytesOf, bits, surfaceFields, sheetS, atZero, shotS}
 
 -- S's sheet, 80 bytes, with a patch of slope 1/2 from 10 to 20 in x and z: 144 bytes
 abbrev sheetT : List ℕ
@@ -58,37 +58,37 @@ tooFast : BallState
 tooFast = record { time = dec 0 1; pos = zero3; vel = vec (dec 201 1) (dec 0 1) (dec 0 1); spin = zero3 }
 
 -- answer 0: sheets of different length, different old contents
-at-rest : settleOf sheetT physicsNew 1000 tour (dec 1225 1000) atZero (ones 20) (ones 22) ≡ settleOf sheetS physicsNew 1000 tour (dec 1225 1000) atZero (zeros 20) (zeros 22)
+at-rest : settleOf sheetT (shotS 1000 atZero) (ones 20) (ones 22) ≡ settleOf sheetS (shotS 1000 atZero) (zeros 20) (zeros 22)
 unfolding definitions zeros ones
 at-rest =
-    demand-3 physicsNew 1000 tour (dec 1225 1000) atZero sheetS sheetT (zeros 20) (zeros 22) (ones 20) (ones 22) accepted-s accepted-t refl refl
+    demand-3 (shotS 1000 atZero) sheetS sheetT (zeros 20) (zeros 22) (ones 20) (ones 22) accepted-s accepted-t refl refl
     (λ lo hi. absurd (let l : 4 ≤ 0 = lo in omega arith)) (λ x z i j w. alike x z (not-ten x (w .1)))
 
 -- answer 23
-stopped : settleOf sheetT physicsNew 1 tour (dec 1225 1000) falling (ones 20) (ones 22) ≡ settleOf sheetS physicsNew 1 tour (dec 1225 1000) falling (zeros 20) (zeros 22)
+stopped : settleOf sheetT (shotS 1 falling) (ones 20) (ones 22) ≡ settleOf sheetS (shotS 1 falling) (zeros 20) (zeros 22)
 unfolding definitions zeros ones falling
 stopped =
-    demand-3 physicsNew 1 tour (dec 1225 1000) falling sheetS sheetT (zeros 20) (zeros 22) (ones 20) (ones 22) accepted-s accepted-t refl refl
+    demand-3 (shotS 1 falling) sheetS sheetT (zeros 20) (zeros 22) (ones 20) (ones 22) accepted-s accepted-t refl refl
     (λ lo hi. absurd (let l : 23 ≤ 8 = hi in omega arith)) (λ x z i j w. alike x z (not-ten x (w .1)))
 
 -- answer 7: the old contents are the same
-refused-7 : settleOf sheetT physicsNew 1000 tour (dec 1225 1000) tooFast (ones 20) (ones 22) ≡ settleOf sheetS physicsNew 1000 tour (dec 1225 1000) tooFast (ones 20) (ones 22)
+refused-7 : settleOf sheetT (shotS 1000 tooFast) (ones 20) (ones 22) ≡ settleOf sheetS (shotS 1000 tooFast) (ones 20) (ones 22)
 unfolding definitions ones tooFast
 refused-7 =
-    demand-3 physicsNew 1000 tour (dec 1225 1000) tooFast sheetS sheetT (ones 20) (ones 22) (ones 20) (ones 22) accepted-s accepted-t refl refl
+    demand-3 (shotS 1000 tooFast) sheetS sheetT (ones 20) (ones 22) (ones 20) (ones 22) accepted-s accepted-t refl refl
     (λ lo hi. (refl, refl)) (λ x z i j w. alike x z (not-ten x (w .1)))
 
-answer-7 : settleOf sheetS physicsNew 1000 tour (dec 1225 1000) tooFast (ones 20) (ones 22) .settled .answer ≡ 7
+answer-7 : settleOf sheetS (shotS 1000 tooFast) (ones 20) (ones 22) .settled .answer ≡ 7
 unfolding definitions ones tooFast
 answer-7 = refl
 
 -- answer 8: a list that is not whole records
-refused-8 : settleOf sheetT physicsNew 1000 tour (dec 1225 1000) atZero (ones 21) (ones 22) ≡ settleOf sheetS physicsNew 1000 tour (dec 1225 1000) atZero (ones 21) (ones 22)
+refused-8 : settleOf sheetT (shotS 1000 atZero) (ones 21) (ones 22) ≡ settleOf sheetS (shotS 1000 atZero) (ones 21) (ones 22)
 unfolding definitions ones
 refused-8 =
-    demand-3 physicsNew 1000 tour (dec 1225 1000) atZero sheetS sheetT (ones 21) (ones 22) (ones 21) (ones 22) accepted-s accepted-t refl refl
+    demand-3 (shotS 1000 atZero) sheetS sheetT (ones 21) (ones 22) (ones 21) (ones 22) accepted-s accepted-t refl refl
     (λ lo hi. (refl, refl)) (λ x z i j w. alike x z (not-ten x (w .1)))
 
-answer-8 : settleOf sheetS physicsNew 1000 tour (dec 1225 1000) atZero (ones 21) (ones 22) .settled .answer ≡ 8
+answer-8 : settleOf sheetS (shotS 1000 atZero) (ones 21) (ones 22) .settled .answer ≡ 8
 unfolding definitions ones
 answer-8 = refl

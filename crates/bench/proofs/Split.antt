@@ -1,4 +1,4 @@
--- Demand 3 (ground, specs/Demand.antt) asks agreement at doubles only: one patch, and the same ground as two patches, which meet between 1 and the next
+-- Demand 3 (promises, specs/Demand.antt) asks agreement at doubles only: one patch, and the same ground as two patches, which meet between 1 and the next
 -- double. No double lies between them, so a shot that crosses x = 1 settles alike on both sheets. Assumes nothing.
 use Prim.Native.Nat.{ℕ, zero, suc, _+_, _*_, _%_, _^_, _≤_, _<_}
 use native.Mathlib.Nat.{pow-le-pow-right}
@@ -22,11 +22,13 @@ use Rattle.aero.specs.Aero.{tour}
 use Rattle.look.specs.Rect.{isDouble}
 use Rattle.look.specs.Tree.{Spot}
 use Rattle.look.specs.Within.{and-parts}
-use Rattle.course.specs.Sheet.{Accepted, little, first, covers, restitutionOf, lawOf, surfaceOf, patchSample, plainSample, courseOf}
-use Rattle.tally.specs.Physics.{physicsNew}
-use Rattle.tally.specs.declared.GroundPhysics.{GroundPhysics}
+use Rattle.octets.specs.Octets.{little}
+use Rattle.course.specs.Sheet.{Accepted, first, covers, restitutionOf, lawOf, surfaceOf, patchSample, plainSample, courseOf}
+use Rattle.shot.specs.Physics.{physicsNew}
+use Rattle.shot.specs.declared.GroundPhysics.{GroundPhysics}
+use Rattle.shot.specs.declared.Shot.{Shot}
 use Rattle.ground.specs.Settle.{settleOf, looksOf}
-use Rattle.ground.specs.Demand.{demand-3}
+use Rattle.promises.specs.Demand.{demand-3}
 use Rattle.bench.specs.Definitions.{definitions}
 use Rattle.bench.specs.Given.{bytesOf, bits, surfaceFields}
 
@@ -175,15 +177,18 @@ physics =
 abbrev landing : BallState
 landing = record { time = dec 0 1; pos = vec (dec 995 1000) (dec 0 1) (dec 0 1); vel = vec (dec 1 1) (dec 0 1) (dec 0 1); spin = zero3 }
 
+abbrev shot : Shot
+shot = record { physics = physics; «step_limit» = 10; ball = tour; «air_density» = dec 1225 1000; landing = landing }
+
 zeros : ℕ → List Float
 zeros n = replicate n (dec 0 1)
 
 -- the first look is on this side of 1 and the last beyond it
-crosses : map (λ (s : Spot). lt one (s .x)) (looksOf whole physics 10 tour (dec 1225 1000) landing (zeros 20) (zeros 22)) ≡ (false ∷ true ∷ [])
+crosses : map (λ (s : Spot). lt one (s .x)) (looksOf whole shot (zeros 20) (zeros 22)) ≡ (false ∷ true ∷ [])
 unfolding definitions zeros
 crosses = refl
 
-settles-alike : settleOf cut physics 10 tour (dec 1225 1000) landing (zeros 20) (zeros 22) ≡ settleOf whole physics 10 tour (dec 1225 1000) landing (zeros 20) (zeros 22)
+settles-alike : settleOf cut shot (zeros 20) (zeros 22) ≡ settleOf whole shot (zeros 20) (zeros 22)
 settles-alike =
-    demand-3 physics 10 tour (dec 1225 1000) landing whole cut (zeros 20) (zeros 22) (zeros 20) (zeros 22) accepted-whole accepted-cut refl refl
+    demand-3 shot whole cut (zeros 20) (zeros 22) (zeros 20) (zeros 22) accepted-whole accepted-cut refl refl
     (λ l h. (refl, refl)) (λ x z i j w. alike x z i)

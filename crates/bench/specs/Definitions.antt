@@ -11,16 +11,17 @@ use Rattle.rk4.specs.Rk4.{movedIn, weightedIn, moved, stepOf, addScaled, stepSt
 use Rattle.flight.specs.Flight.{accelOf}
 use Rattle.impact.specs.Impact.{unitOrZero, effectiveNormal, frictionImpulse, pivoted, struck, impactOf}
 use Rattle.contact.specs.Contact.{tangent, slipOf, lockedOf, saturated, tangentialGravity, relocked, ontoOf, holdsAtRest, sampleHolds, returnedBy, spinInertia, energyOf, hopsDieOut}
-use Rattle.contact.specs.Arc.{hermitePos, hermiteVel, hermiteOf, parabolaOf, dropTime}
+use Rattle.flight.specs.Arc.{hermitePos, hermiteVel, hermiteOf, parabolaOf, dropTime}
 use Rattle.search.specs.Search.{inside, start, inBracket, halvedIf, replaced, chord, nextTry, onward, narrowed, rootFrom, findRoot}
 use Rattle.slide.specs.Slide.{slideAccel, slideSpinAccel, slideRate, fixedRate, slideFixed, patchSlip, turningRate, slideTurning, slipSpeed, slipDecay, slipRate, timeToRoll, finishOf, aboveOf, guessOf, finishFrom, slideToThreshold, slideOnSlope, slideOf}
-use Rattle.slide.specs.ContactStep.{pivotAccel, patchOf, slidTo, slideStep, rollPatchOf, decelOf, headingOf, stopsOf, stopTime, restPos, restSpin, restOf, resistanceOf, rollRate, rollBy, rolledSpin, rollOn, rollStep, contactStepOf}
+use Rattle.rolling.specs.ContactStep.{pivotAccel, patchOf, slidTo, slideStep, rollPatchOf, decelOf, headingOf, stopsOf, stopTime, restPos, restSpin, restOf, resistanceOf, rollRate, rollBy, rolledSpin, rollOn, rollStep, contactStepOf}
 use Rattle.state.specs.State.{coordOk}
 use Rattle.look.specs.Rect.{spotOk, lesser, greater, widen, noRect}
 use Rattle.look.specs.Tree.{bind, looks, exec}
-use Rattle.course.specs.Sheet.{little, headerOk, restitutionOk, lawOk, surfaceOk, edgesOk, patchOk, all, answerOf, first, covers, restitutionOf, lawOf, surfaceOf, patchSample, plainSample, courseOf}
+use Rattle.octets.specs.Octets.{little}
+use Rattle.course.specs.Sheet.{headerOk, restitutionOk, lawOk, surfaceOk, edgesOk, patchOk, all, answerOf, first, covers, restitutionOf, lawOf, surfaceOf, patchSample, plainSample, courseOf}
 use Rattle.records.specs.Records.{flat, shown, pushed}
-use Rattle.tally.specs.Physics.{physicsNew}
+use Rattle.shot.specs.Physics.{physicsNew}
 use Rattle.tally.specs.Times.{isLate, isDue, nextAfter}
 use Rattle.state.specs.State.{vecOk, stateOk}
 use Rattle.tally.specs.Language.{_>>=_, when, countStep, look, test, pushPoint, pushContact, mark, truncate, stepsLeft, loop}
@@ -30,11 +31,12 @@ use Rattle.roll.specs.Roll.{stepOn, lastOf, pointDue, heldOf, putDown, groundSt
 use Rattle.ground_phase.specs.GroundPhase.{lastPhase, timeUp, groundFrom, ground}
 use Rattle.strike.specs.Strike.{strike, rebounds, diesOut, fly, dropped, drop}
 use Rattle.train.specs.Train.{lastImpact, toGround, trainFrom, train}
-use Rattle.ground.specs.Tests.{stepPhysicsOk, physicsOk, ballOk, densityOk, vecAbout, landingOk, wholes, inputTest, refusalOf}
+use Rattle.shot.specs.Tests.{stepPhysicsOk, physicsOk, ballOk, densityOk, vecAbout, landingOk, inputTest}
+use Rattle.ground.specs.Tests.{wholes, refusalOf}
 use Rattle.ground.specs.Settle.{reportOf, conditionsOf, runOf, settleOf, looksOf}
-use Rattle.input.specs.Input.{realAt, vecAt, physicsAt, ballAt, landingAt, settleInputOf}
+use Rattle.input.specs.Input.{realAt, vecAt, physicsAt, ballAt, landingAt, shotAt, settleInputOf}
 use Rattle.line.specs.Line.{decimalIn, decimalOf, terminationOf, countsOf, shownOf, lineOf}
 
 unfoldable pub definitions : Unit {0}
-unfolding fits round add sub mul div lt le eq ne neg ofBits toBits ofInt toSigned isNan minOf maxOf clampOf absOf signumOf withinOf hypotOf expOf cosineOf sineOf arctangentOf vadd vsub vscale vdivs vdot vcross vlengthSquared vlength vnormalize vnormalizeOrZero sameVec penner coefficientAt speedFactor rollingFriction pennerThetaC pennerRefAngle tiltedAngle contactAngle radiusOf areaOf cdClOf fromSpinVector magnusOf accelerationOf movedIn weightedIn moved stepOf addScaled stepStateOf accelOf unitOrZero effectiveNormal frictionImpulse pivoted struck impactOf tangent slipOf lockedOf saturated tangentialGravity relocked ontoOf holdsAtRest sampleHolds returnedBy spinInertia energyOf hopsDieOut hermitePos hermiteVel hermiteOf parabolaOf dropTime inside start inBracket halvedIf replaced chord nextTry onward narrowed rootFrom findRoot slideAccel slideSpinAccel slideRate fixedRate slideFixed patchSlip turningRate slideTurning slipSpeed slipDecay slipRate timeToRoll finishOf aboveOf guessOf finishFrom slideToThreshold slideOnSlope slideOf pivotAccel patchOf slidTo slideStep rollPatchOf decelOf headingOf stopsOf stopTime restPos restSpin restOf resistanceOf rollRate rollBy rolledSpin rollOn rollStep contactStepOf coordOk spotOk lesser greater widen noRect bind looks exec little headerOk restitutionOk lawOk surfaceOk edgesOk patchOk all answerOf first covers restitutionOf lawOf surfaceOf patchSample plainSample courseOf flat shown pushed physicsNew isLate isDue nextAfter _>>=_ when vecOk stateOk countStep look test pushPoint pushContact mark truncate stepsLeft loop arcOf clearance clearanceAt advanced atStart subStep crossingFrom firstCrossing endValue guessIn endingAt crossingTime placed hopArrival stepArc stepEnd hopNext hopStep hopFrom hop stepOn lastOf pointDue heldOf putDown groundStep lastPhase timeUp lastImpact strike rebounds diesOut fly dropped drop groundFrom ground toGround trainFrom train stepPhysicsOk physicsOk ballOk densityOk vecAbout landingOk wholes inputTest refusalOf reportOf conditionsOf runOf settleOf looksOf realAt vecAt physicsAt ballAt landingAt settleInputOf decimalIn decimalOf terminationOf countsOf shownOf lineOf
+unfolding fits round add sub mul div lt le eq ne neg ofBits toBits ofInt toSigned isNan minOf maxOf clampOf absOf signumOf withinOf hypotOf expOf cosineOf sineOf arctangentOf vadd vsub vscale vdivs vdot vcross vlengthSquared vlength vnormalize vnormalizeOrZero sameVec penner coefficientAt speedFactor rollingFriction pennerThetaC pennerRefAngle tiltedAngle contactAngle radiusOf areaOf cdClOf fromSpinVector magnusOf accelerationOf movedIn weightedIn moved stepOf addScaled stepStateOf accelOf unitOrZero effectiveNormal frictionImpulse pivoted struck impactOf tangent slipOf lockedOf saturated tangentialGravity relocked ontoOf holdsAtRest sampleHolds returnedBy spinInertia energyOf hopsDieOut hermitePos hermiteVel hermiteOf parabolaOf dropTime inside start inBracket halvedIf replaced chord nextTry onward narrowed rootFrom findRoot slideAccel slideSpinAccel slideRate fixedRate slideFixed patchSlip turningRate slideTurning slipSpeed slipDecay slipRate timeToRoll finishOf aboveOf guessOf finishFrom slideToThreshold slideOnSlope slideOf pivotAccel patchOf slidTo slideStep rollPatchOf decelOf headingOf stopsOf stopTime restPos restSpin restOf resistanceOf rollRate rollBy rolledSpin rollOn rollStep contactStepOf coordOk spotOk lesser greater widen noRect bind looks exec little headerOk restitutionOk lawOk surfaceOk edgesOk patchOk all answerOf first covers restitutionOf lawOf surfaceOf patchSample plainSample courseOf flat shown pushed physicsNew isLate isDue nextAfter _>>=_ when vecOk stateOk countStep look test pushPoint pushContact mark truncate stepsLeft loop arcOf clearance clearanceAt advanced atStart subStep crossingFrom firstCrossing endValue guessIn endingAt crossingTime placed hopArrival stepArc stepEnd hopNext hopStep hopFrom hop stepOn lastOf pointDue heldOf putDown groundStep lastPhase timeUp lastImpact strike rebounds diesOut fly dropped drop groundFrom ground toGround trainFrom train stepPhysicsOk physicsOk ballOk densityOk vecAbout landingOk wholes inputTest refusalOf reportOf conditionsOf runOf settleOf looksOf realAt vecAt physicsAt ballAt landingAt shotAt settleInputOf decimalIn decimalOf terminationOf countsOf shownOf lineOf
 definitions = tt

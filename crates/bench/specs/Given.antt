@@ -12,9 +12,8 @@ use Rattle.surface.specs.declared.Restitution.{Restitution}
 use Rattle.surface.specs.declared.RollLaw.{RollLaw}
 use Rattle.surface.specs.declared.Surface.{Surface}
 use Rattle.aero.specs.Aero.{tour}
-use Rattle.aero.specs.declared.BallModel.{BallModel}
-use Rattle.tally.specs.Physics.{physicsNew}
-use Rattle.tally.specs.declared.GroundPhysics.{GroundPhysics}
+use Rattle.shot.specs.Physics.{physicsNew}
+use Rattle.shot.specs.declared.Shot.{Shot}
 
 -- ---- bytes
 
@@ -64,14 +63,17 @@ sheetOf s = bytesOf 4 (1 ∷ 16 ∷ 0 ∷ 80 ∷ []) ++ bytesOf 8 (surfaceFields
 
 -- ---- the 30 fields before the sheet
 
-abbrev pub fieldsOf : GroundPhysics → ℕ → BallModel → Float → BallState → List ℕ
-fieldsOf p limit b density l =
+abbrev pub fieldsOf : Shot → List ℕ
+fieldsOf s =
+    let p = s .physics in
+    let b = s .ball in
+    let l = s .landing in
     bits (p .dt) ∷ bits (p .«stop_speed») ∷ bits (p .«roll_threshold») ∷ bits (p .«min_hop_height») ∷ bits (p .«max_time»)
-    ∷ p .«max_impacts» ∷ limit
+    ∷ p .«max_impacts» ∷ s .«step_limit»
     ∷ bits (b .«mass_kg») ∷ bits (b .«diameter_m») ∷ bits (b .«inertia_factor»)
     ∷ bits (b .«cd_sub») ∷ bits (b .«cd_super») ∷ bits (b .«cd_spin») ∷ bits (b .«sr_sat»)
     ∷ bits (b .«cl_sub») ∷ bits (b .«cl_super») ∷ bits (b .«sr_scale») ∷ bits (b .«re_crit») ∷ bits (b .«re_width»)
-    ∷ bits density
+    ∷ bits (s .«air_density»)
     ∷ bits (l .time) ∷ bits (l .pos .x) ∷ bits (l .pos .y) ∷ bits (l .pos .z)
     ∷ bits (l .vel .x) ∷ bits (l .vel .y) ∷ bits (l .vel .z) ∷ bits (l .spin .x) ∷ bits (l .spin .y) ∷ bits (l .spin .z) ∷ []
 
@@ -102,8 +104,12 @@ inputOf fields sheet = bytesOf 8 fields ++ sheet
 abbrev pub atZero : BallState
 atZero = record { time = dec 0 1; pos = zero3; vel = zero3; spin = zero3 }
 
+-- with this step_limit and landing
+abbrev pub shotS : ℕ → BallState → Shot
+shotS limit landing = record { physics = physicsNew; «step_limit» = limit; ball = tour; «air_density» = dec 1225 1000; landing = landing }
+
 abbrev pub fieldsS : List ℕ
-fieldsS = fieldsOf physicsNew 1000 tour (dec 1225 1000) atZero
+fieldsS = fieldsOf (shotS 1000 atZero)
 
 abbrev pub sheetS : List ℕ
 sheetS = sheetOf green

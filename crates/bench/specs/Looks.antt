@@ -13,7 +13,8 @@ use Rattle.surface.specs.declared.RollLaw.{RollLaw}
 use Rattle.surface.specs.declared.Surface.{Surface}
 use Rattle.aero.specs.Aero.{tour}
 use Rattle.look.specs.Tree.{Spot}
-use Rattle.tally.specs.declared.GroundPhysics.{GroundPhysics}
+use Rattle.shot.specs.declared.GroundPhysics.{GroundPhysics}
+use Rattle.shot.specs.declared.Shot.{Shot}
 use Rattle.ground.specs.Settle.{looksOf}
 use Rattle.bench.specs.Definitions.{definitions}
 use Rattle.bench.specs.Given.{sheetOf}
@@ -44,9 +45,12 @@ surface = record {
 abbrev landing : BallState
 landing = record { time = dec 0 1; pos = zero3; vel = vec (dec 1 1) (neg (dec 32 100)) (dec 5 10); spin = vec (dec 0 1) (dec 5 1) (dec 20 1) }
 
+abbrev shot : Float → Shot
+shot density = record { physics = physics; «step_limit» = 100; ball = tour; «air_density» = density; landing = landing }
+
 -- the looks at this density, with 64 contacts and 640 points lent
 abbrev looksIn : Float → List Spot
-looksIn density = looksOf (sheetOf surface) physics 100 tour density landing (replicate 1280 (dec 0 1)) (replicate 7040 (dec 0 1))
+looksIn density = looksOf (sheetOf surface) (shot density) (replicate 1280 (dec 0 1)) (replicate 7040 (dec 0 1))
 
 -- ---- the looks
 

@@ -12,7 +12,7 @@ use Rattle.state.specs.declared.BallState.{BallState}
 use Rattle.aero.specs.declared.BallModel.{BallModel}
 use Rattle.state.specs.State.{coordOk}
 use Rattle.state.specs.State.{vecOk, stateOk}
-use Rattle.tally.specs.declared.GroundPhysics.{GroundPhysics}
+use Rattle.shot.specs.declared.Shot.{Shot}
 use Rattle.ground.specs.Settle.{settleOf}
 use Rattle.promises.specs.Finite.{settle-leaves}
 use Rattle.promises.specs.Promises.{answered}
@@ -28,10 +28,10 @@ spot-about s h =
     (and-l (coordOk (s .pos .x)) (coordOk (s .pos .y) && coordOk (s .pos .z)) p, and-r (coordOk (s .pos .y)) (coordOk (s .pos .z)) (and-r (coordOk (s .pos .x)) (coordOk (s .pos .y) && coordOk (s .pos .z)) p))
 
 -- 01: "Every run with answer 0 may be entered", whatever the board and the shot number
-pub may-be-entered : (sheet : List ℕ) (p : GroundPhysics) (limit : ℕ) (ball : BallModel) (density : Float) (landing : BallState) (cs ps : List Float)
-    → settleOf sheet p limit ball density landing cs ps .settled .answer ≡ 0 → (b : Board) (n : ℕ)
-    → enterOf b n (settleOf sheet p limit ball density landing cs ps .settled .rest .pos .x) (settleOf sheet p limit ball density landing cs ps .settled .rest .pos .z) .answer ≡ 10 → ⊥
-may-be-entered sheet p limit ball density landing cs ps h b n =
-    let l = settle-leaves sheet p limit ball density landing cs ps (answered sheet p limit ball density landing cs ps h) in
-    let w = spot-about (settleOf sheet p limit ball density landing cs ps .settled .rest) (subst T (sym (l .rest)) tt) in
-    never-10 b (record { shot = n; x = settleOf sheet p limit ball density landing cs ps .settled .rest .pos .x; z = settleOf sheet p limit ball density landing cs ps .settled .rest .pos .z }) (w .0) (w .1)
+pub may-be-entered : (sheet : List ℕ) (shot : Shot) (cs ps : List Float)
+    → settleOf sheet shot cs ps .settled .answer ≡ 0 → (b : Board) (n : ℕ)
+    → enterOf b n (settleOf sheet shot cs ps .settled .rest .pos .x) (settleOf sheet shot cs ps .settled .rest .pos .z) .answer ≡ 10 → ⊥
+may-be-entered sheet shot cs ps h b n =
+    let l = settle-leaves sheet shot cs ps (answered sheet shot cs ps h) in
+    let w = spot-about (settleOf sheet shot cs ps .settled .rest) (subst T (sym (l .rest)) tt) in
+    never-10 b (record { shot = n; x = settleOf sheet shot cs ps .settled .rest .pos .x; z = settleOf sheet shot cs ps .settled .rest .pos .z }) (w .0) (w .1)

@@ -1,11 +1,9 @@
-// A ball on the ground, and its path within one step of a hop.
+// A ball on the ground: slip, rolling, following the surface, the end of a train of hops.
 ghost use mathlib.Core.Path.{_≡_};
 ghost use Rattle.contact.specs.Contact.{tangent, slipOf, lockedOf, saturated, tangentialGravity, relocked, ontoOf, holdsAtRest, sampleHolds, returnedBy, spinInertia, energyOf, hopsDieOut};
-ghost use Rattle.contact.specs.Arc.{hermitePos, hermiteVel, hermiteOf, parabolaOf, dropTime};
 use aero::BallModel;
 use aero::G;
 use aero::GRAVITY;
-use rk4::State;
 use state::BallState;
 use surface::GroundSample;
 use surface::Surface;
@@ -167,69 +165,4 @@ pub fn hops_die_out(
     let inertia = spin_inertia(ball);
     let removed = energy(inertia, arrival) - energy(inertia, rebound);
     removed - returned >= G * min_hop_height
-}
-
-// The position of the interpolant at u = tau / h.
-fn hermite_pos(pos: DVec3, vel: DVec3, chord: DVec3, end_vel: DVec3, h: f64, u: f64) -> DVec3
-    ensures { λ r. ⌜ r ≡ hermitePos pos vel chord «end_vel» h u ⌝ }
-{
-    let u2 = u * u;
-    let u3 = u * u * u;
-    pos.add(vel.scale((u3 - 2.0 * u2 + u) * h))
-        .add(chord.scale(3.0 * u2 - 2.0 * u3))
-        .add(end_vel.scale((u3 - u2) * h))
-}
-
-// The velocity of the interpolant at u = tau / h.
-fn hermite_vel(vel: DVec3, chord: DVec3, end_vel: DVec3, h: f64, u: f64) -> DVec3
-    ensures { λ r. ⌜ r ≡ hermiteVel vel chord «end_vel» h u ⌝ }
-{
-    let u2 = u * u;
-    vel.scale(3.0 * u2 - 4.0 * u + 1.0)
-        .add(chord.scale((6.0 * u - 6.0 * u2) / h))
-        .add(end_vel.scale(3.0 * u2 - 2.0 * u))
-}
-
-// The state a time tau into a step of length h from a to b: the cubic Hermite interpolant.
-pub fn hermite(a: State, b: State, h: f64, tau: f64) -> State
-    ensures { λ r. ⌜ r ≡ hermiteOf a b h tau ⌝ }
-{
-    let pos = a.pos;
-    let vel = a.vel;
-    let end = b.pos;
-    let end_vel = b.vel;
-    let u = tau / h;
-    let chord = end.sub(pos);
-    State {
-        pos: hermite_pos(pos, vel, chord, end_vel, h, u),
-        vel: hermite_vel(vel, chord, end_vel, h, u),
-    }
-}
-
-// The state a time tau after s, under gravity alone.
-pub fn parabola(s: State, tau: f64) -> State
-    ensures { λ r. ⌜ r ≡ parabolaOf s tau ⌝ }
-{
-    let p = s.pos;
-    let v = s.vel;
-    State {
-        pos: p.add(v.scale(tau))
-            .add(GRAVITY.scale(0.5).scale(tau).scale(tau)),
-        vel: v.add(GRAVITY.scale(tau)),
-    }
-}
-
-// The time in which a ball at a height, moving up at vy, falls to the ground under gravity alone.
-pub fn drop_time(height: f64, vy: f64) -> f64
-    ensures { λ r. ⌜ r ≡ dropTime height vy ⌝ }
-{
-    if (height <= 0.0) & (vy <= 0.0) {
-        return 0.0;
-    }
-    let above = number::max(height, 0.0);
-    let disc = root::root(vy * vy + 2.0 * G * above);
-    if vy >= 0.0 {
-        return (vy + disc) / G;
-    }
-    2.0 * above / (disc - vy)
 }

@@ -8,7 +8,7 @@ use Rattle.number.specs.Ops.{dec}
 use Rattle.look.specs.Rect.{spotOk}
 use Rattle.course.specs.declared.HeightOut.{HeightOut}
 pub use Rattle.sheet.specs.Sheet.{surfaces, patches, field, real, Accepted}
-unfoldable pub use Rattle.sheet.specs.Sheet.{little, headerOk, restitutionOk, lawOk, surfaceOk, edgesOk, patchOk, all, answerOf, first, covers, restitutionOf, lawOf, surfaceOf, patchSample, plainSample, courseOf}
+unfoldable pub use Rattle.sheet.specs.Sheet.{headerOk, restitutionOk, lawOk, surfaceOk, edgesOk, patchOk, all, answerOf, first, covers, restitutionOf, lawOf, surfaceOf, patchSample, plainSample, courseOf}
 
 -- what a refusal gives: the number of the test, and +0
 abbrev pub refusedHeight : ℕ → HeightOut

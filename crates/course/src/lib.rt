@@ -10,10 +10,6 @@ use look::Look;
 use look::LookOut;
 use look::Rect;
 pub use sheet::check_sheet;
-pub use sheet::double_at;
-pub use sheet::float_of;
-pub use sheet::half;
-pub use sheet::word;
 use surface::GroundSample;
 use surface::Restitution;
 use surface::RollLaw;
@@ -118,8 +114,8 @@ fn sample_at(sheet: &[u8], index: &[u64], x: f64, z: f64) -> GroundSample
     requires { ⌜ Ready (now sheet) (now index) ⌝ }
     ensures { λ r. ⌜ r ≡ courseOf (now (sheet .entry)) x z ⌝ }
 {
-    let count = sheet::half(sheet, 0) as usize;
-    let n = sheet::half(sheet, 8) as usize;
+    let count = octets::half(sheet, 0) as usize;
+    let n = octets::half(sheet, 8) as usize;
     let i = index::find(sheet, index, count, n, x, z);
     sample_of(sheet, count, n, i, x, z)
 }
@@ -161,8 +157,8 @@ pub fn height(sheet: &[u8], x: f64, z: f64) -> HeightOut
         };
     }
     if look::spot_ok(x, z) {
-        let count = sheet::half(sheet, 0) as usize;
-        let n = sheet::half(sheet, 8) as usize;
+        let count = octets::half(sheet, 0) as usize;
+        let n = octets::half(sheet, 8) as usize;
         let i = index::find_patch(sheet, count, n, x, z);
         let g = sample_of(sheet, count, n, i, x, z);
         HeightOut {

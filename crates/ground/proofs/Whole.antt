@@ -18,19 +18,19 @@ use Rattle.records.specs.Records.{Clean, recs, shown, zeroed}
 use Rattle.records.proofs.Laws.{shows, clean-zeroed, zeroed-length, recs-length}
 use Rattle.tally.specs.Language.{Ran, ran, Log, Outcome, if_then_else_}
 use Rattle.tally.specs.Contracts.{logOf, Grown, lent}
-use Rattle.tally.specs.declared.GroundPhysics.{GroundPhysics}
+use Rattle.shot.specs.declared.Shot.{Shot}
 use Rattle.tally.specs.declared.Conditions.{Conditions}
 use Rattle.ground_phase.specs.Contracts.{endedBy}
 use Rattle.train.specs.Contracts.{TrainRuns}
 use Rattle.train.specs.declared.RunOut.{RunOut}
-use Rattle.ground.specs.Tests.{refusalOf, stepTest, impactTest, stepPhysicsOk, ballOk, landingOk}
+use Rattle.ground.specs.Tests.{refusalOf, stepTest, impactTest}
 use Rattle.ground.specs.Settle.{result, reportOf, conditionsOf, runOf, settleOf}
 use Rattle.ground.specs.Contracts.{settledBy}
 use Rattle.surface.specs.declared.GroundSample.{GroundSample}
 use Rattle.aero.specs.Aero.{radiusOf}
 use Rattle.contact.specs.Contact.{ontoOf}
-use Rattle.slide.specs.ContactStep.{contactStepOf}
-use Rattle.slide.specs.declared.Stepped.{Stepped}
+use Rattle.rolling.specs.ContactStep.{contactStepOf}
+use Rattle.rolling.specs.declared.Stepped.{Stepped}
 use Rattle.look.specs.Tree.{Oracle, lookTree}
 use Rattle.look.specs.declared.Look.{Look}
 use Rattle.look.specs.declared.Look.the-variants.{Saw}
@@ -62,12 +62,12 @@ seen : (w n : ℕ) (l m : List Float) → Grown w 0 (zeroed l 0) n m → Clean w
 seen w n l m g c e = shows w n m (g .clean c) ∙ ap (λ (k : ℕ). shown k (recs w n m)) (e ∙ zeroed-length l 0)
 
 -- an accepted settle
-pub settled-whole : (s : List ℕ) (p : GroundPhysics) (limit : ℕ) (ball : BallModel) (density : Float) (landing : BallState) (cs ps : List Float) (r : RunOut) {c : Conditions} {mc mp : List Float}
-    → refusalOf s p limit ball density landing (length cs) (length ps) ≡ 0 → c ≡ conditionsOf p limit ball density landing
-    → TrainRuns (courseOf s) c landing (zeroed cs 0) (zeroed ps 0) r mc mp → length mc ≡ length (zeroed cs 0) → length mp ≡ length (zeroed ps 0)
-    → result (settledBy r) mc mp ≡ settleOf s p limit ball density landing cs ps
+pub settled-whole : (s : List ℕ) (shot : Shot) (cs ps : List Float) (r : RunOut) {c : Conditions} {mc mp : List Float}
+    → refusalOf s shot (length cs) (length ps) ≡ 0 → c ≡ conditionsOf shot
+    → TrainRuns (courseOf s) c (shot .landing) (zeroed cs 0) (zeroed ps 0) r mc mp → length mc ≡ length (zeroed cs 0) → length mp ≡ length (zeroed ps 0)
+    → result (settledBy r) mc mp ≡ settleOf s shot cs ps
 unfolding settleOf reportOf runOf recs
-settled-whole s p limit ball density landing cs ps r {mc = mc} {mp} h ec t lc lp =
+settled-whole s shot cs ps r {mc = mc} {mp} h ec t lc lp =
     let vc = seen 20 (r .contacts) cs mc (t .contacts) (clean-zeroed 20 0 cs zero-le) lc in
     let vp = seen 11 (r .tally .points) ps mp (t .points) (clean-zeroed 11 0 ps zero-le) lp in
     let a : result (settledBy r) mc mp ≡ reportOf (length cs) (length ps) (did (ran (endedBy (r .end)) (logOf (lent (length cs / 20) (r .contacts) mc) (length ps / 11) (r .tally) mp)) (r .tally .rect))

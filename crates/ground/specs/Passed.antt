@@ -1,19 +1,18 @@
--- The numbers of a settle that is turned back, and what one that is not has passed.
+-- Lemmas. The numbers of a settle that is turned back, and what one that is not has passed.
 use Prim.Native.Nat.{ℕ, _≤_}
 use native.Mathlib.Omega.{arith}
 use mathlib.Core.Path.{_≡_, refl}
 use mathlib.Core.Bool.{Bool, true, false, not, cond}
 use mathlib.Core.List.{List}
 use lib.Dec.{eqb}
-use lib.Ieee.{Float}
 use borrow.Author.Tests.{eqb-true, eqb-false}
-use Rattle.state.specs.declared.BallState.{BallState}
-use Rattle.aero.specs.declared.BallModel.{BallModel}
+use Rattle.number.specs.Ops.{if_then_else_}
+use Rattle.shot.specs.Tests.{inputTest}
+use Rattle.shot.specs.Passed.{Passes, input-passes, input-most}
+use Rattle.shot.specs.declared.Shot.{Shot}
 use Rattle.sheet.specs.Sheet.{headerOk, surfaceOk, patchOk, surfaces, patches, all}
 use Rattle.course.specs.Sheet.{answerOf}
-use Rattle.tally.specs.Language.{if_then_else_}
-use Rattle.tally.specs.declared.GroundPhysics.{GroundPhysics}
-use Rattle.ground.specs.Tests.{physicsOk, ballOk, densityOk, landingOk, wholes, inputTest, refusalOf}
+use Rattle.ground.specs.Tests.{wholes, refusalOf}
 
 sheet-number : (s : List ℕ) → answerOf s ≤ 3
 unfolding answerOf
@@ -25,29 +24,31 @@ sheet-number s = go (headerOk s) (all (surfaceOk s) (surfaces s) 0) (all (patchO
     go true false c = omega arith
     go false b c = omega arith
 
-module _ (s : List ℕ) (p : GroundPhysics) (limit : ℕ) (ball : BallModel) (density : Float) (landing : BallState) (nc np : ℕ) where
-  abbrev number : Bool → Bool → Bool → Bool → Bool → Bool → ℕ
-  number w e a b c d = if not w then 8 else if not e then answerOf s else if not a then 4 else if not b then 5 else if not c then 6 else if not d then 7 else 0
+module _ (s : List ℕ) (shot : Shot) (nc np : ℕ) where
+  abbrev number : Bool → Bool → ℕ
+  number w e = if not w then 8 else if not e then answerOf s else inputTest shot
 
-  tests : (refusalOf s p limit ball density landing nc np ≤ 8) × (refusalOf s p limit ball density landing nc np ≡ 0 → (answerOf s ≡ 0) × (landingOk landing ≡ true))
-  unfolding refusalOf inputTest
-  tests = go (wholes nc np) (eqb (answerOf s) 0) (physicsOk p limit) (ballOk ball) (densityOk density) (landingOk landing) refl
+  -- a call that passes every test passes 1 to 3, and 4 to 7
+  tests : refusalOf s shot nc np ≡ 0 → (answerOf s ≡ 0) × (inputTest shot ≡ 0)
+  unfolding refusalOf
+  tests = go (wholes nc np) (eqb (answerOf s) 0) refl
     where
-      go : (w e a b c d : Bool) → eqb (answerOf s) 0 ≡ e → (number w e a b c d ≤ 8) × (number w e a b c d ≡ 0 → (answerOf s ≡ 0) × (d ≡ true))
-      go true true true true true true i = (omega arith, λ h. (eqb-true (answerOf s) 0 i, refl))
-      go true true true true true false i = (omega arith, λ h. absurd (omega (arith, h)))
-      go true true true true false d i = (omega arith, λ h. absurd (omega (arith, h)))
-      go true true true false c d i = (omega arith, λ h. absurd (omega (arith, h)))
-      go true true false b c d i = (omega arith, λ h. absurd (omega (arith, h)))
-      go true false a b c d i = (let k = sheet-number s in omega (arith, k), λ h. absurd (eqb-false (answerOf s) 0 i h))
-      go false e a b c d i = (omega arith, λ h. absurd (omega (arith, h)))
+      go : (w e : Bool) → eqb (answerOf s) 0 ≡ e → number w e ≡ 0 → (answerOf s ≡ 0) × (inputTest shot ≡ 0)
+      go true true i h = (eqb-true (answerOf s) 0 i, h)
+      go true false i h = absurd (eqb-false (answerOf s) 0 i h)
+      go false e i h = absurd (omega (arith, h))
 
-  pub refused-by : refusalOf s p limit ball density landing nc np ≤ 8
-  refused-by = tests .0
+  pub settle-sheet : refusalOf s shot nc np ≡ 0 → answerOf s ≡ 0
+  settle-sheet h = tests h .0
 
-  -- a call that passes every test passes 1 to 3, and 7
-  pub settle-sheet : refusalOf s p limit ball density landing nc np ≡ 0 → answerOf s ≡ 0
-  settle-sheet h = tests .1 h .0
+  pub settle-passes : refusalOf s shot nc np ≡ 0 → Passes shot
+  settle-passes h = input-passes shot (tests h .1)
 
-  pub settle-landing : refusalOf s p limit ball density landing nc np ≡ 0 → landingOk landing ≡ true
-  settle-landing h = tests .1 h .1
+  pub refused-by : refusalOf s shot nc np ≤ 8
+  unfolding refusalOf
+  refused-by = go (wholes nc np) (eqb (answerOf s) 0)
+    where
+      go : (w e : Bool) → number w e ≤ 8
+      go true true = let k = input-most shot in omega (arith, k)
+      go true false = let k = sheet-number s in omega (arith, k)
+      go false e = omega arith

@@ -15,7 +15,7 @@ use Rattle.look.specs.declared.Rect.{Rect}
 use Rattle.course.specs.Sheet.{courseOf}
 use Rattle.records.specs.Records.{shown}
 use Rattle.tally.specs.Language.{Log, Outcome, goes, stops, Ran, if_then_else_}
-use Rattle.tally.specs.declared.GroundPhysics.{GroundPhysics}
+use Rattle.shot.specs.declared.Shot.{Shot}
 use Rattle.tally.specs.declared.Conditions.{Conditions}
 use Rattle.roll.specs.declared.Ending.{Ending}
 use Rattle.state.specs.declared.Termination.{Termination}
@@ -78,24 +78,30 @@ unfoldable pub reportOf : ℕ → ℕ → Did (Ran Ending) → Result
 reportOf nc np d = result (settledOf (d .value .outcome) (d .value .log) (d .rect)) (shown nc (d .value .log .contacts .records)) (shown np (d .value .log .points .records))
 
 -- ground.rs, fn settle: `t_end = landing.time + self.max_time`
-unfoldable pub conditionsOf : GroundPhysics → ℕ → BallModel → Float → BallState → Conditions
-conditionsOf p limit ball density landing = record { physics = p; «step_limit» = limit; ball = ball; «air_density» = density; «t_end» = landing .time ⊕ p .«max_time» }
+unfoldable pub conditionsOf : Shot → Conditions
+conditionsOf s = record {
+  physics = s .physics;
+  «step_limit» = s .«step_limit»;
+  ball = s .ball;
+  «air_density» = s .«air_density»;
+  «t_end» = s .landing .time ⊕ s .physics .«max_time»;
+}
 
 -- the log before the first look, with lists of nc and np doubles
 abbrev pub firstLog : BallState → ℕ → ℕ → Log
 firstLog landing nc np = record { steps = 0; contacts = record { room = nc / 20; records = [] }; points = record { room = np / 11; records = [] }; good = landing }
 
 -- the run of an accepted call, over the course's looks
-unfoldable pub runOf : GroundPhysics → ℕ → BallModel → Float → BallState → ℕ → ℕ → Tree (Ran Ending)
-runOf p limit ball density landing nc np = train (conditionsOf p limit ball density landing) landing (firstLog landing nc np)
+unfoldable pub runOf : Shot → ℕ → ℕ → Tree (Ran Ending)
+runOf s nc np = train (conditionsOf s) (s .landing) (firstLog (s .landing) nc np)
 
-module _ (sheet : List ℕ) (p : GroundPhysics) (limit : ℕ) (ball : BallModel) (density : Float) (landing : BallState) (cs ps : List Float) where
+module _ (sheet : List ℕ) (shot : Shot) (cs ps : List Float) where
   -- lists untouched on a refusal
   unfoldable pub settleOf : Result
   settleOf =
-      let n = refusalOf sheet p limit ball density landing (length cs) (length ps) in
-      if eqb n 0 then reportOf (length cs) (length ps) (exec (courseOf sheet) noRect (runOf p limit ball density landing (length cs) (length ps))) else result (refusal n) cs ps
+      let n = refusalOf sheet shot (length cs) (length ps) in
+      if eqb n 0 then reportOf (length cs) (length ps) (exec (courseOf sheet) noRect (runOf shot (length cs) (length ps))) else result (refusal n) cs ps
 
   -- the spots looked at, in order. 01: "The definition lists their spots, worked out from the input"
   unfoldable pub looksOf : List Spot
-  looksOf = if eqb (refusalOf sheet p limit ball density landing (length cs) (length ps)) 0 then looks (courseOf sheet) (runOf p limit ball density landing (length cs) (length ps)) else []
+  looksOf = if eqb (refusalOf sheet shot (length cs) (length ps)) 0 then looks (courseOf sheet) (runOf shot (length cs) (length ps)) else []

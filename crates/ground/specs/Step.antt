@@ -8,7 +8,7 @@ use Rattle.aero.specs.Aero.{radiusOf}
 use Rattle.aero.specs.declared.BallModel.{BallModel}
 use Rattle.impact.specs.Impact.{impactOf}
 use Rattle.contact.specs.Contact.{ontoOf}
-use Rattle.slide.specs.ContactStep.{contactStepOf}
+use Rattle.rolling.specs.ContactStep.{contactStepOf}
 use Rattle.look.specs.Rect.{noRect}
 use Rattle.look.specs.Tree.{exec}
 use Rattle.course.specs.Sheet.{courseOf}

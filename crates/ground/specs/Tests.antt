@@ -1,67 +1,26 @@
--- The tests 8 and 4 to 7 of what is handed in (01, "Numbers for what was handed in"). A range is by value: NaN fails it, −0 counts as 0.
+-- Definitions. The tests of a call (01, "Numbers for what was handed in"): 8, 1 to 3 of the sheet, 4 to 7 of the shot.
 use Prim.Native.Nat.{ℕ, _%_}
 use mathlib.Core.Bool.{Bool, _&&_, not}
 use mathlib.Core.List.{List}
-use lib.Dec.{leb, eqb}
+use lib.Dec.{eqb}
 use lib.Ieee.{Float}
-use Rattle.number.specs.Ops.{dec}
-use Rattle.number.specs.Number.{withinOf, aboutOf}
-use Rattle.vector.specs.declared.DVec3.{DVec3}
+use Rattle.number.specs.Ops.{if_then_else_}
 use Rattle.state.specs.declared.BallState.{BallState}
 use Rattle.aero.specs.declared.BallModel.{BallModel}
+use Rattle.shot.specs.Tests.{stepPhysicsOk, ballOk, landingOk, inputTest}
+use Rattle.shot.specs.declared.Shot.{Shot}
 use Rattle.course.specs.Sheet.{answerOf}
-use Rattle.tally.specs.Language.{if_then_else_}
-use Rattle.tally.specs.declared.GroundPhysics.{GroundPhysics}
-
--- 4, of what `step` takes: "dt 0.0001..0.01; stop_speed, roll_threshold .. 0..1"
-unfoldable pub stepPhysicsOk : Float → Float → Float → Bool
-stepPhysicsOk dt stop roll = withinOf (dec 1 10000) (dec 1 100) dt && withinOf (dec 0 1) (dec 1 1) stop && withinOf (dec 0 1) (dec 1 1) roll
-
--- 4: "min_hop_height 0..1; max_time 0..600; max_impacts 0..1000; step_limit 1..2,000,000"
-unfoldable pub physicsOk : GroundPhysics → ℕ → Bool
-physicsOk p limit =
-    stepPhysicsOk p.dt p.«stop_speed» p.«roll_threshold» && withinOf (dec 0 1) (dec 1 1) p.«min_hop_height» && withinOf (dec 0 1) (dec 600 1) p.«max_time»
-    && leb p.«max_impacts» 1000 && leb 1 limit && leb limit 2000000
-
--- 5: "mass 0.001..1; diameter 0.005..0.5; inertia 0.1..1; cd and cl fields 0..10; sr_sat, sr_scale 0.001..10; re_crit 0..1e7; re_width 1..1e7"
-unfoldable pub ballOk : BallModel → Bool
-ballOk b =
-    withinOf (dec 1 1000) (dec 1 1) b.«mass_kg» && withinOf (dec 5 1000) (dec 5 10) b.«diameter_m» && withinOf (dec 1 10) (dec 1 1) b.«inertia_factor»
-    && withinOf (dec 0 1) (dec 10 1) b.«cd_sub» && withinOf (dec 0 1) (dec 10 1) b.«cd_super» && withinOf (dec 0 1) (dec 10 1) b.«cd_spin»
-    && withinOf (dec 1 1000) (dec 10 1) b.«sr_sat»
-    && withinOf (dec 0 1) (dec 10 1) b.«cl_sub» && withinOf (dec 0 1) (dec 10 1) b.«cl_super»
-    && withinOf (dec 1 1000) (dec 10 1) b.«sr_scale»
-    && withinOf (dec 0 1) (dec 10000000 1) b.«re_crit» && withinOf (dec 1 1) (dec 10000000 1) b.«re_width»
-
--- 6: "density 0..10"
-unfoldable pub densityOk : Float → Bool
-densityOk d = withinOf (dec 0 1) (dec 10 1) d
-
-unfoldable pub vecAbout : Float → DVec3 → Bool
-vecAbout r v = aboutOf r v.x && aboutOf r v.y && aboutOf r v.z
-
--- 7: "time 0..100,000; pos ±100,000; vel ±200; spin ±5000"
-unfoldable pub landingOk : BallState → Bool
-landingOk s = withinOf (dec 0 1) (dec 100000 1) s.time && vecAbout (dec 100000 1) s.pos && vecAbout (dec 200 1) s.vel && vecAbout (dec 5000 1) s.spin
 
 -- 8: "a list length isn't whole records (0 is whole)"
 unfoldable pub wholes : ℕ → ℕ → Bool
 wholes nc np = eqb (nc % 20) 0 && eqb (np % 11) 0
 
--- the first of 4 to 7 that fails, or 0
-unfoldable pub inputTest : GroundPhysics → ℕ → BallModel → Float → BallState → ℕ
-inputTest p limit ball density landing =
-    if not (physicsOk p limit) then 4 else
-    if not (ballOk ball) then 5 else
-    if not (densityOk density) then 6 else
-    if not (landingOk landing) then 7 else 0
-
 -- the first test of a settle that fails, or 0: "in the order .. 8, 1 to 7"
-unfoldable pub refusalOf : List ℕ → GroundPhysics → ℕ → BallModel → Float → BallState → ℕ → ℕ → ℕ
-refusalOf sheet p limit ball density landing nc np =
+unfoldable pub refusalOf : List ℕ → Shot → ℕ → ℕ → ℕ
+refusalOf sheet shot nc np =
     if not (wholes nc np) then 8 else
     if not (eqb (answerOf sheet) 0) then answerOf sheet else
-    inputTest p limit ball density landing
+    inputTest shot
 
 -- of `step`: 1 to 3, 4, 5, 7
 unfoldable pub stepTest : List ℕ → Float → Float → Float → BallModel → BallState → ℕ

@@ -1,7 +1,8 @@
 // What callers see of a ball that lands: settle, step and impact, with the tests of what is handed in (01).
 ghost use mathlib.Core.Path.{_≡_};
+ghost use lib.ListN.{length};
 ghost use Rattle.course.specs.Index.{Ready};
-ghost use Rattle.ground.specs.Tests.{stepPhysicsOk, physicsOk, ballOk, densityOk, vecAbout, landingOk, inputTest, refusalOf, stepTest, impactTest};
+ghost use Rattle.ground.specs.Tests.{refusalOf, stepTest, impactTest};
 ghost use Rattle.ground.specs.Settle.{result, refusal as refusalR, conditionsOf, settleOf, terminationNumber};
 ghost use Rattle.ground.specs.Contracts.{settledBy};
 ghost use Rattle.ground.specs.Step.{stepOut, stepMade, stepOf, impactOut, impactMade, impactAnswer};
@@ -9,112 +10,16 @@ use aero::BallModel;
 use ground_phase::RunEnd;
 use look::Look;
 use look::Rect;
+use shot::Shot;
 use state::BallState;
 use state::Termination;
 use tally::Conditions;
-use tally::GroundPhysics;
 use train::RunOut;
 use vector::DVec3;
 
-// ---- tests
-
-fn step_physics_ok(dt: f64, stop_speed: f64, roll_threshold: f64) -> bool
-    ensures { λ r. ⌜ r ≡ stepPhysicsOk dt «stop_speed» «roll_threshold» ⌝ }
-{
-    number::within(0.0001, 0.01, dt)
-        & number::within(0.0, 1.0, stop_speed)
-        & number::within(0.0, 1.0, roll_threshold)
-}
-
-fn physics_ok(p: GroundPhysics, step_limit: u64) -> bool
-    ensures { λ r. ⌜ r ≡ physicsOk p «step_limit» ⌝ }
-{
-    step_physics_ok(p.dt, p.stop_speed, p.roll_threshold)
-        & number::within(0.0, 1.0, p.min_hop_height)
-        & number::within(0.0, 600.0, p.max_time)
-        & (p.max_impacts <= 1000)
-        & (1 <= step_limit)
-        & (step_limit <= 2000000)
-}
-
-fn ball_ok(b: BallModel) -> bool
-    ensures { λ r. ⌜ r ≡ ballOk b ⌝ }
-{
-    number::within(0.001, 1.0, b.mass_kg)
-        & number::within(0.005, 0.5, b.diameter_m)
-        & number::within(0.1, 1.0, b.inertia_factor)
-        & number::within(0.0, 10.0, b.cd_sub)
-        & number::within(0.0, 10.0, b.cd_super)
-        & number::within(0.0, 10.0, b.cd_spin)
-        & number::within(0.001, 10.0, b.sr_sat)
-        & number::within(0.0, 10.0, b.cl_sub)
-        & number::within(0.0, 10.0, b.cl_super)
-        & number::within(0.001, 10.0, b.sr_scale)
-        & number::within(0.0, 10000000.0, b.re_crit)
-        & number::within(1.0, 10000000.0, b.re_width)
-}
-
-fn density_ok(air_density: f64) -> bool
-    ensures { λ r. ⌜ r ≡ densityOk «air_density» ⌝ }
-{
-    number::within(0.0, 10.0, air_density)
-}
-
-fn vec_about(r: f64, v: DVec3) -> bool
-    ensures { λ b. ⌜ b ≡ vecAbout r v ⌝ }
-{
-    number::within(-r, r, v.x) & number::within(-r, r, v.y) & number::within(-r, r, v.z)
-}
-
-fn landing_ok(s: BallState) -> bool
-    ensures { λ r. ⌜ r ≡ landingOk s ⌝ }
-{
-    let pos = s.pos;
-    let vel = s.vel;
-    let spin = s.spin;
-    number::within(0.0, 100000.0, s.time)
-        & vec_about(100000.0, pos)
-        & vec_about(200.0, vel)
-        & vec_about(5000.0, spin)
-}
-
-// The first of 4 to 7 that fails, or 0.
-fn input_test(
-    physics: GroundPhysics,
-    step_limit: u64,
-    ball: BallModel,
-    air_density: f64,
-    landing: BallState,
-) -> u32
-    ensures { λ r. ⌜ r ≡ inputTest physics «step_limit» ball «air_density» landing ⌝ }
-{
-    if !physics_ok(physics, step_limit) {
-        return 4;
-    }
-    if !ball_ok(ball) {
-        return 5;
-    }
-    if !density_ok(air_density) {
-        return 6;
-    }
-    if !landing_ok(landing) {
-        return 7;
-    }
-    0
-}
-
 // The first test of a settle that fails, or 0.
-fn refusal(
-    sheet: &[u8],
-    physics: GroundPhysics,
-    step_limit: u64,
-    ball: BallModel,
-    air_density: f64,
-    landing: BallState,
-    contacts: usize,
-    points: usize,
-) -> u32
-    ensures { λ r. ⌜ r ≡ refusalOf (now (sheet .entry)) physics «step_limit» ball «air_density» landing contacts points ⌝ }
+pub fn refusal(sheet: &[u8], shot: Shot, contacts: usize, points: usize) -> u32
+    ensures { λ r. ⌜ r ≡ refusalOf (now (sheet .entry)) shot contacts points ⌝ }
 {
     if contacts % 20 != 0 {
         return 8;
@@ -126,7 +31,7 @@ fn refusal(
     if answer != 0 {
         return answer;
     }
-    input_test(physics, step_limit, ball, air_density, landing)
+    shot::input_test(shot)
 }
 
 // ---- settle
@@ -152,7 +57,8 @@ pub fn termination_number(t: Termination) -> u64
     }
 }
 
-fn refused(answer: u32) -> Settled
+// What a refusal hands back: the number, zero counts, an all-zero state and rectangle.
+pub fn refused(answer: u32) -> Settled
     ensures { λ r. ⌜ r ≡ refusalR answer ⌝ }
 {
     Settled {
@@ -207,56 +113,50 @@ fn report(r: RunOut) -> Settled
     }
 }
 
-fn conditions(
-    physics: GroundPhysics,
-    step_limit: u64,
-    ball: BallModel,
-    air_density: f64,
-    landing: BallState,
-) -> Conditions
-    ensures { λ r. ⌜ r ≡ conditionsOf physics «step_limit» ball «air_density» landing ⌝ }
+fn conditions(shot: Shot) -> Conditions
+    ensures { λ r. ⌜ r ≡ conditionsOf shot ⌝ }
 {
+    let physics = shot.physics;
+    let ball = shot.ball;
+    let landing = shot.landing;
     Conditions {
         physics,
-        step_limit,
+        step_limit: shot.step_limit,
         ball,
-        air_density,
+        air_density: shot.air_density,
         t_end: landing.time + physics.max_time,
     }
 }
 
-// From a landing on the course of the sheet to rest, to max_time or to max_impacts.
-pub fn settle(
+// The settle of a shot that passed its tests, with an index of the sheet.
+pub fn settle_with(
     sheet: &[u8],
-    physics: GroundPhysics,
-    step_limit: u64,
-    ball: BallModel,
-    air_density: f64,
-    landing: BallState,
+    index: &[u64],
+    shot: Shot,
     contacts: &mut [f64],
     points: &mut [f64],
 ) -> Settled
-    ensures { λ r. ⌜ result r (now (contacts .exit)) (now (points .exit)) ≡ settleOf (now (sheet .entry)) physics «step_limit» ball «air_density» landing (now (contacts .entry)) (now (points .entry)) ⌝ }
+    requires { ⌜ (refusalOf (now sheet) shot (length (now contacts)) (length (now points)) ≡ 0) × Ready (now sheet) (now index) ⌝ }
+    ensures { λ r. ⌜ result r (now (contacts .exit)) (now (points .exit)) ≡ settleOf (now (sheet .entry)) shot (now (contacts .entry)) (now (points .entry)) ⌝ }
 {
-    let answer = refusal(
-        sheet,
-        physics,
-        step_limit,
-        ball,
-        air_density,
-        landing,
-        contacts.len(),
-        points.len(),
-    );
+    records::zero_from(contacts, 0);
+    records::zero_from(points, 0);
+    let c = conditions(shot);
+    let landing = shot.landing;
+    report(train::run(sheet, index, contacts, points, c, landing))
+}
+
+// From a landing on the course of the sheet to rest, to max_time or to max_impacts.
+pub fn settle(sheet: &[u8], shot: Shot, contacts: &mut [f64], points: &mut [f64]) -> Settled
+    ensures { λ r. ⌜ result r (now (contacts .exit)) (now (points .exit)) ≡ settleOf (now (sheet .entry)) shot (now (contacts .entry)) (now (points .entry)) ⌝ }
+{
+    let answer = refusal(sheet, shot, contacts.len(), points.len());
     if answer != 0 {
         return refused(answer);
     }
     let mut index = [0u64; 290];
     course::make_index(sheet, &mut index);
-    records::zero_from(contacts, 0);
-    records::zero_from(points, 0);
-    let c = conditions(physics, step_limit, ball, air_density, landing);
-    report(train::run(sheet, &index, contacts, points, c, landing))
+    settle_with(sheet, &index, shot, contacts, points)
 }
 
 // ---- one step, one impact
@@ -291,13 +191,13 @@ fn step_test(
     if answer != 0 {
         return answer;
     }
-    if !step_physics_ok(dt, stop_speed, roll_threshold) {
+    if !shot::step_physics_ok(dt, stop_speed, roll_threshold) {
         return 4;
     }
-    if !ball_ok(ball) {
+    if !shot::ball_ok(ball) {
         return 5;
     }
-    if !landing_ok(state) {
+    if !shot::landing_ok(state) {
         return 7;
     }
     0
@@ -322,7 +222,7 @@ fn step_made(
     let Look::Saw(at) = what else {
         return step_refused(22, state);
     };
-    let moved = slide::contact_step(state, at, ball, dt, stop_speed, roll_threshold);
+    let moved = rolling::contact_step(state, at, ball, dt, stop_speed, roll_threshold);
     let next = moved.state;
     let phase = moved.phase;
     let spot = next.pos;
@@ -381,10 +281,10 @@ fn impact_test(sheet: &[u8], ball: BallModel, state: BallState) -> u32
     if answer != 0 {
         return answer;
     }
-    if !ball_ok(ball) {
+    if !shot::ball_ok(ball) {
         return 5;
     }
-    if !landing_ok(state) {
+    if !shot::landing_ok(state) {
         return 7;
     }
     0

@@ -106,7 +106,7 @@ fn cut_at(index: &[u64], j: usize) -> f64
     requires { ⌜ (length (now index) ≡ 290) × (j < 34) ⌝ }
     ensures { λ r. ⌜ r ≡ cut (now (index .entry)) j ⌝ }
 {
-    sheet::float_of(index[256 + j])
+    octets::float_of(index[256 + j])
 }
 
 // A column (d = 0) or a row (d = 1) whose cuts are likely to have x between them. Nothing is proved of it but that it is one.
@@ -192,8 +192,8 @@ fn fill_marks(sheet: &[u8], count: usize, n: usize, index: &mut [u64])
     let mut k = 0usize;
     while k < 256 {
         let c = 17 * (k / 128) + k / 8 % 16;
-        let lo = sheet::float_of(index[256 + c]);
-        let hi = sheet::float_of(index[256 + (c + 1)]);
+        let lo = octets::float_of(index[256 + c]);
+        let hi = octets::float_of(index[256 + (c + 1)]);
         let from = word_start(count, n, k % 8);
         let end = word_start(count, n, k % 8 + 1);
         index[k] = mark(sheet, k / 128, lo, hi, from, end);
@@ -238,8 +238,8 @@ pub fn make_index(sheet: &[u8], index: &mut [u64])
     requires { ⌜ (answerOf (now sheet) ≡ 0) × (length (now index) ≡ 290) ⌝ }
     ensures { λ _. ⌜ Ready (now (sheet .entry)) (now (index .exit)) ⌝ }
 {
-    let count = sheet::half(sheet, 0) as usize;
-    let n = sheet::half(sheet, 8) as usize;
+    let count = octets::half(sheet, 0) as usize;
+    let n = octets::half(sheet, 8) as usize;
     if n <= 48 {
         return;
     }

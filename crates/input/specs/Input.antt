@@ -1,6 +1,5 @@
--- The input of the program settle (01, "Lists and the rest of the shop"): 8 bytes a field, little-endian, dt, stop_speed, roll_threshold,
+-- Definitions. The input of the program settle (01, "Lists and the rest of the shop"): 8 bytes a field, little-endian, dt, stop_speed, roll_threshold,
 -- min_hop_height, max_time, max_impacts and step_limit (u64), ball (12), density, landing (time, pos, vel, spin), 240 bytes; then the sheet.
--- Definitions only.
 use Prim.Native.Nat.{ℕ, _+_, _*_}
 use mathlib.Core.Bool.{_&&_, cond}
 use mathlib.Core.List.{List}
@@ -11,8 +10,9 @@ use Rattle.vector.specs.Vec.{vec}
 use Rattle.vector.specs.declared.DVec3.{DVec3}
 use Rattle.state.specs.declared.BallState.{BallState}
 use Rattle.aero.specs.declared.BallModel.{BallModel}
-use Rattle.course.specs.Sheet.{little}
-use Rattle.tally.specs.declared.GroundPhysics.{GroundPhysics}
+use Rattle.octets.specs.Octets.{little}
+use Rattle.shot.specs.declared.GroundPhysics.{GroundPhysics}
+use Rattle.shot.specs.declared.Shot.{Shot}
 use Rattle.ground.specs.Settle.{Result, result, refusal, settleOf}
 
 -- field i of 8 bytes, as a u64 and as an f64
@@ -37,9 +37,6 @@ physicsAt s =
       «max_impacts» = wholeAt s 5;
     }
 
-abbrev pub stepLimitAt : List ℕ → ℕ
-stepLimitAt s = wholeAt s 6
-
 -- the fields 7 to 18
 unfoldable pub ballAt : List ℕ → BallModel
 ballAt s =
@@ -58,12 +55,13 @@ ballAt s =
       «re_width» = realAt s 18;
     }
 
-abbrev pub densityAt : List ℕ → Float
-densityAt s = realAt s 19
-
 -- the fields 20 to 29: time, pos, vel, spin
 unfoldable pub landingAt : List ℕ → BallState
 landingAt s = record { time = realAt s 20; pos = vecAt s 21; vel = vecAt s 24; spin = vecAt s 27 }
+
+-- all fields: field 6 is step_limit, field 19 the density
+unfoldable pub shotAt : List ℕ → Shot
+shotAt s = record { physics = physicsAt s; «step_limit» = wholeAt s 6; ball = ballAt s; «air_density» = realAt s 19; landing = landingAt s }
 
 abbrev pub sheetAt : List ℕ → List ℕ
 sheetAt s = drop 240 s
@@ -72,5 +70,5 @@ sheetAt s = drop 240 s
 unfoldable pub settleInputOf : List ℕ → List Float → List Float → Result
 settleInputOf s contacts points =
     cond (leb 240 (length s) && leb (length s) 34048)
-    (settleOf (sheetAt s) (physicsAt s) (stepLimitAt s) (ballAt s) (densityAt s) (landingAt s) contacts points)
+    (settleOf (sheetAt s) (shotAt s) contacts points)
     (result (refusal 12) contacts points)

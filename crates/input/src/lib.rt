@@ -2,14 +2,13 @@
 ghost use mathlib.Core.Path.{_≡_};
 ghost use Prim.Native.Nat.{_+_, _*_, _≤_};
 ghost use lib.ListN.{length};
-ghost use Rattle.ground.specs.Settle.{result, refusal};
-ghost use Rattle.input.specs.Input.{wholeAt, realAt, vecAt, physicsAt, ballAt, landingAt, settleInputOf};
+ghost use Rattle.ground.specs.Settle.{result};
+ghost use Rattle.input.specs.Input.{wholeAt, realAt, vecAt, physicsAt, ballAt, landingAt, shotAt, settleInputOf};
 use aero::BallModel;
 use ground::Settled;
-use look::Rect;
 use state::BallState;
-use state::Termination;
-use tally::GroundPhysics;
+use shot::GroundPhysics;
+use shot::Shot;
 use vector::DVec3;
 
 // Field i, as a u64.
@@ -17,7 +16,7 @@ fn whole(s: &[u8], i: usize) -> u64
     requires { ⌜ 8 * i + 8 ≤ length (now s) ⌝ }
     ensures { λ r. ⌜ r ≡ wholeAt (now (s .entry)) i ⌝ }
 {
-    course::word(s, 8 * i)
+    octets::word(s, 8 * i)
 }
 
 // Field i, as an f64.
@@ -25,7 +24,7 @@ fn real(s: &[u8], i: usize) -> f64
     requires { ⌜ 8 * i + 8 ≤ length (now s) ⌝ }
     ensures { λ r. ⌜ r ≡ realAt (now (s .entry)) i ⌝ }
 {
-    course::double_at(s, 8 * i)
+    octets::double_at(s, 8 * i)
 }
 
 // The fields i, i + 1, i + 2.
@@ -89,36 +88,21 @@ fn landing_at(s: &[u8]) -> BallState
     }
 }
 
-// What a refusal hands back: zero counts, an all-zero state and rectangle.
-fn refused(answer: u32) -> Settled
-    ensures { λ r. ⌜ r ≡ refusal answer ⌝ }
+fn shot_at(s: &[u8]) -> Shot
+    requires { ⌜ 240 ≤ length (now s) ⌝ }
+    ensures { λ r. ⌜ r ≡ shotAt (now (s .entry)) ⌝ }
 {
-    let zero = DVec3 {
-        x: 0.0,
-        y: 0.0,
-        z: 0.0,
-    };
-    let rest = BallState {
-        time: 0.0,
-        pos: zero,
-        vel: zero,
-        spin: zero,
-    };
-    let rect = Rect {
-        seen: false,
-        x_lo: 0.0,
-        x_hi: 0.0,
-        z_lo: 0.0,
-        z_hi: 0.0,
-    };
-    Settled {
-        answer,
-        termination: Termination::Nothing,
-        contacts: 0,
-        points: 0,
-        steps: 0,
-        rest,
-        rect,
+    let physics = physics_at(s);
+    let step_limit = whole(s, 6);
+    let ball = ball_at(s);
+    let air_density = real(s, 19);
+    let landing = landing_at(s);
+    Shot {
+        physics,
+        step_limit,
+        ball,
+        air_density,
+        landing,
     }
 }
 
@@ -127,24 +111,11 @@ pub fn settle_input(input: &[u8], contacts: &mut [f64], points: &mut [f64]) -> S
     ensures { λ r. ⌜ result r (now (contacts .exit)) (now (points .exit)) ≡ settleInputOf (now (input .entry)) (now (contacts .entry)) (now (points .entry)) ⌝ }
 {
     if input.len() < 240 {
-        return refused(12);
+        return ground::refused(12);
     }
     if 34048 < input.len() {
-        return refused(12);
+        return ground::refused(12);
     }
-    let physics = physics_at(input);
-    let step_limit = whole(input, 6);
-    let ball = ball_at(input);
-    let air_density = real(input, 19);
-    let landing = landing_at(input);
-    ground::settle(
-        &input[240..],
-        physics,
-        step_limit,
-        ball,
-        air_density,
-        landing,
-        contacts,
-        points,
-    )
+    let shot = shot_at(input);
+    ground::settle(&input[240..], shot, contacts, points)
 }

@@ -19,12 +19,12 @@ use Rattle.aero.specs.declared.CdCl.{CdCl}
 use Rattle.flight.specs.Flight.{flightStep}
 use Rattle.impact.specs.Impact.{impactOf}
 use Rattle.contact.specs.Contact.{slipOf, lockedOf, saturated, tangentialGravity, ontoOf, sampleHolds, hopsDieOut}
-use Rattle.contact.specs.Arc.{hermiteOf, parabolaOf, dropTime}
+use Rattle.flight.specs.Arc.{hermiteOf, parabolaOf, dropTime}
 use Rattle.contact.specs.declared.Locked.{Locked}
 use Rattle.slide.specs.Slide.{slideOf}
 use Rattle.slide.specs.declared.Slid.{Slid}
-use Rattle.slide.specs.ContactStep.{contactStepOf}
-use Rattle.slide.specs.declared.Stepped.{Stepped}
+use Rattle.rolling.specs.ContactStep.{contactStepOf}
+use Rattle.rolling.specs.declared.Stepped.{Stepped}
 use Rattle.probe.specs.Rows.{restitutionOf, rollLawOf, sampleAt, greenWith, flightAt, motionAt, patchAt, vecFields, flightFields, truthOf, truthNumber, phaseNumber}
 
 -- the answer of a door, and what `out` holds afterwards

@@ -17,7 +17,7 @@ use rk4::Motion;
 use rk4::State;
 use slide::Patch;
 use slide::Slid;
-use slide::Stepped;
+use rolling::Stepped;
 use state::BallState;
 use state::Phase;
 use surface::GroundSample;
@@ -398,7 +398,7 @@ pub extern "C" fn probe_contact_step(input: &[f64], out: &mut [f64]) -> u32
     let ball = fields::ball_at(input, 22);
     fill_stepped(
         out,
-        slide::contact_step(state, at, ball, input[34], input[35], input[36]),
+        rolling::contact_step(state, at, ball, input[34], input[35], input[36]),
     );
     0
 }
@@ -527,7 +527,7 @@ pub extern "C" fn probe_hermite(input: &[f64], out: &mut [f64]) -> u32
     }
     let a = flight_at(input, 0);
     let b = flight_at(input, 6);
-    fill_flight(out, contact::hermite(a, b, input[12], input[13]));
+    fill_flight(out, flight::hermite(a, b, input[12], input[13]));
     0
 }
 
@@ -542,7 +542,7 @@ pub extern "C" fn probe_parabola(input: &[f64], out: &mut [f64]) -> u32
         return 100;
     }
     let a = flight_at(input, 0);
-    fill_flight(out, contact::parabola(a, input[6]));
+    fill_flight(out, flight::parabola(a, input[6]));
     0
 }
 
@@ -556,7 +556,7 @@ pub extern "C" fn probe_drop_time(input: &[f64], out: &mut [f64]) -> u32
     if out.len() != 1 {
         return 100;
     }
-    fill_one(out, contact::drop_time(input[0], input[1]));
+    fill_one(out, flight::drop_time(input[0], input[1]));
     0
 }
 

@@ -28,7 +28,7 @@ use Rattle.look.specs.Resume.{steps as stepsOf}
 use Rattle.look.specs.Within.{and-parts, coord-fin}
 use Rattle.course.specs.Sheet.{Accepted, answerOf, courseOf}
 use Rattle.records.specs.Records.{Records, null, flat, shown}
-use Rattle.tally.specs.declared.GroundPhysics.{GroundPhysics}
+use Rattle.shot.specs.declared.Shot.{Shot}
 use Rattle.search.specs.Search.{rootFrom, findRoot, afterStep, narrowed, inBracket}
 use Rattle.search.specs.declared.Bracket.{Bracket}
 use Rattle.search.specs.declared.Search.{Search}
@@ -54,8 +54,9 @@ use Rattle.strike.specs.declared.Struck.{Struck}
 use Rattle.strike.specs.declared.Flown.{Flown}
 use Rattle.strike.specs.declared.Flown.the-variants.{Hop, Ground}
 use Rattle.train.specs.Train.{lastImpact, toGround, trainFrom, train}
-use Rattle.ground.specs.Tests.{vecAbout, landingOk, refusalOf}
-use Rattle.ground.specs.Passed.{settle-landing}
+use Rattle.shot.specs.Tests.{vecAbout, landingOk}
+use Rattle.ground.specs.Tests.{refusalOf}
+use Rattle.ground.specs.Passed.{settle-passes}
 use Rattle.ground.specs.Settle.{answerBy, howBy, restBy, reportOf, conditionsOf, firstLog, runOf, settleOf}
 use Rattle.promises.specs.Samples.{Sampled, sampled, number-finite}
 use Rattle.promises.specs.Keeps.{Each, PointOf, ContactOf, After, Stop, SampleOf, Keeps, KeepsTo, Any, Ok, OnWith, keeps-bind, k-pure, k-if, k-when, k-look, k-test, k-count, k-mark, k-truncate, k-point, k-contact, k-loop, to, to-bind, to-if, to-left}
@@ -246,34 +247,40 @@ passed : (b : Bool) → T b → b ≡ true
 passed true t = refl
 passed false t = absurd t
 
-module _ (sheet : List ℕ) (p : GroundPhysics) (limit : ℕ) (ball : BallModel) (density : Float) (landing : BallState) (cs ps : List Float) where
+module _ (sheet : List ℕ) (shot : Shot) (cs ps : List Float) where
+  abbrev limit : ℕ
+  limit = shot .«step_limit»
+
+  abbrev landing : BallState
+  landing = shot .landing
+
   pub record Leaves : Type 0 where
     pub contacts : Records
     pub points : Records
     -- both lists are these records, in order, and +0 in all the rest
-    pub contacts-listed : settleOf sheet p limit ball density landing cs ps .contacts ≡ shown (length cs) contacts
-    pub points-listed : settleOf sheet p limit ball density landing cs ps .points ≡ shown (length ps) points
-    pub contacts-counted : settleOf sheet p limit ball density landing cs ps .settled .contacts ≡ length contacts
-    pub points-counted : settleOf sheet p limit ball density landing cs ps .settled .points ≡ length points
+    pub contacts-listed : settleOf sheet shot cs ps .contacts ≡ shown (length cs) contacts
+    pub points-listed : settleOf sheet shot cs ps .points ≡ shown (length ps) points
+    pub contacts-counted : settleOf sheet shot cs ps .settled .contacts ≡ length contacts
+    pub points-counted : settleOf sheet shot cs ps .settled .points ≡ length points
     -- no more than the lists have room for
     pub contacts-fit : length contacts ≤ length cs / 20
     pub points-fit : length points ≤ length ps / 11
     pub each-contact : Each (ContactOf (courseOf sheet)) contacts
     pub each-point : Each PointOf points
-    pub steps : settleOf sheet p limit ball density landing cs ps .settled .steps ≤ limit
+    pub steps : settleOf sheet shot cs ps .settled .steps ≤ limit
     -- 23 comes with step_limit steps made
-    pub limit-reached : settleOf sheet p limit ball density landing cs ps .settled .answer ≡ 23 → settleOf sheet p limit ball density landing cs ps .settled .steps ≡ limit
+    pub limit-reached : settleOf sheet shot cs ps .settled .answer ≡ 23 → settleOf sheet shot cs ps .settled .steps ≡ limit
     -- the count is of the steps that the run made
-    pub made : settleOf sheet p limit ball density landing cs ps .settled .steps ≡ stepsOf (courseOf sheet) (runOf p limit ball density landing (length cs) (length ps))
-    pub answer : Answer (settleOf sheet p limit ball density landing cs ps .settled .termination) (settleOf sheet p limit ball density landing cs ps .settled .answer)
+    pub made : settleOf sheet shot cs ps .settled .steps ≡ stepsOf (courseOf sheet) (runOf shot (length cs) (length ps))
+    pub answer : Answer (settleOf sheet shot cs ps .settled .termination) (settleOf sheet shot cs ps .settled .answer)
     -- the final state passes test 22
-    pub rest : stateOk (settleOf sheet p limit ball density landing cs ps .settled .rest) ≡ true
+    pub rest : stateOk (settleOf sheet shot cs ps .settled .rest) ≡ true
 
   abbrev o : Oracle
   o = courseOf sheet
 
   abbrev t : Tree (Ran Ending)
-  t = runOf p limit ball density landing (length cs) (length ps)
+  t = runOf shot (length cs) (length ps)
 
   value-is : exec o noRect t .value ≡ run o t
   value-is = ap (λ (d : Did (Ran Ending)). d .value) (exec-is o noRect t)
@@ -294,11 +301,11 @@ module _ (sheet : List ℕ) (p : GroundPhysics) (limit : ℕ) (ball : BallModel)
   answer-is (stops j) n h = (h .0, h .1)
 
   -- under the answers 0 and 20 to 23
-  pub settle-leaves : refusalOf sheet p limit ball density landing (length cs) (length ps) ≡ 0 → Leaves
+  pub settle-leaves : refusalOf sheet shot (length cs) (length ps) ≡ 0 → Leaves
   unfolding settleOf reportOf runOf conditionsOf
   settle-leaves h =
-      let ok : stateOk landing ≡ true = passed (stateOk landing) (landing-passes landing (rw (settle-landing sheet p limit ball density landing (length cs) (length ps) h) tt)) in
-      let k = train-sound o (length cs / 20) (length ps / 11) limit (conditionsOf p limit ball density landing) refl landing ok .all (firstLog landing (length cs) (length ps))
+      let ok : stateOk landing ≡ true = passed (stateOk landing) (landing-passes landing (rw (settle-passes sheet shot (length cs) (length ps) h .landing) tt)) in
+      let k = train-sound o (length cs / 20) (length ps / 11) limit (conditionsOf shot) refl landing ok .all (firstLog landing (length cs) (length ps))
       (record { good = ok; contacts = tt; points = tt; few-contacts = zero-le; few-points = zero-le; room-contacts = refl; room-points = refl }) zero-le in
       record {
         contacts = run o t .log .contacts .records;

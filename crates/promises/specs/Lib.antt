@@ -1,3 +1,4 @@
+pub mod Demand
 pub mod Keeps
 pub mod Samples
 pub mod Finite

@@ -19,7 +19,7 @@ use Rattle.look.specs.Resume.{steps as stepsOf}
 use Rattle.look.specs.Within.{Edges, coord-fin, edges-ok, no-rect-ok}
 use Rattle.look.specs.declared.Rect.{Rect}
 use Rattle.course.specs.Sheet.{courseOf}
-use Rattle.tally.specs.declared.GroundPhysics.{GroundPhysics}
+use Rattle.shot.specs.declared.Shot.{Shot}
 use Rattle.state.specs.declared.Termination.{Termination}
 use Rattle.state.specs.declared.Termination.the-variants.{Nothing, Rest, MaxTime, MaxImpacts}
 use Rattle.ground.specs.Tests.{refusalOf}
@@ -36,23 +36,23 @@ about : (r : Rect) → Edges (λ x. T (coordOk x)) r → Edges About r
 unfolding coordOk
 about r h = ((coord-fin _ (h .0), h .0), (coord-fin _ (h .1), h .1), (coord-fin _ (h .2), h .2), (coord-fin _ (h .3), h .3))
 
-module _ (sheet : List ℕ) (p : GroundPhysics) (limit : ℕ) (ball : BallModel) (density : Float) (landing : BallState) (cs ps : List Float) where
+module _ (sheet : List ℕ) (shot : Shot) (cs ps : List Float) where
   -- what the call gives; the number of the first test that it fails, or 0
   abbrev pub got : Result
-  got = settleOf sheet p limit ball density landing cs ps
+  got = settleOf sheet shot cs ps
 
   abbrev pub number : ℕ
-  number = refusalOf sheet p limit ball density landing (length cs) (length ps)
+  number = refusalOf sheet shot (length cs) (length ps)
 
   -- 01: "the lists above say when each number comes and at no other time, which demand 1 carries". An accepted call answers 0 and ends by rest, time
   -- or impacts; or it answers 20, 21, 22 or 23 and has no termination
   pub accepted-answer : number ≡ 0 → Answer (got .settled .termination) (got .settled .answer)
-  accepted-answer h = settle-leaves sheet p limit ball density landing cs ps h .answer
+  accepted-answer h = settle-leaves sheet shot cs ps h .answer
 
   -- 01, "Numbers for what was handed in": a refused call answers 1 to 8, and has no termination
   pub refused-answer : (number ≡ 0 → ⊥) → (1 ≤ got .settled .answer) × (got .settled .answer ≤ 8) × (got .settled .termination ≡ Nothing)
   unfolding settleOf
-  refused-answer h = let b = refused-by sheet p limit ball density landing (length cs) (length ps) in rw (ne-eqb number 0 h) (omega (arith, h), b, refl)
+  refused-answer h = let b = refused-by sheet shot (length cs) (length ps) in rw (ne-eqb number 0 h) (omega (arith, h), b, refl)
 
   -- 01: "Result of a settle: the number": 0 comes from accepted calls alone
   pub answered : got .settled .answer ≡ 0 → number ≡ 0
@@ -89,8 +89,8 @@ module _ (sheet : List ℕ) (p : GroundPhysics) (limit : ℕ) (ball : BallModel)
 
   pub all-finite : number ≡ 0 → AllFinite
   all-finite h =
-      let l = settle-leaves sheet p limit ball density landing cs ps h in
-      let k = contact-finite sheet (settle-sheet sheet p limit ball density landing (length cs) (length ps) h) in
+      let l = settle-leaves sheet shot cs ps h in
+      let k = contact-finite sheet (settle-sheet sheet shot (length cs) (length ps) h) in
       record {
         contacts = rw (l .contacts-listed) (finite-shown (ContactOf (courseOf sheet)) k _ (l .contacts) (l .each-contact));
         points = rw (l .points-listed) (finite-shown PointOf point-finite _ (l .points) (l .each-point));
@@ -104,9 +104,9 @@ module _ (sheet : List ℕ) (p : GroundPhysics) (limit : ℕ) (ball : BallModel)
   rect-about = go (eqb number 0) refl
     where
       go : (b : Bool) → eqb number 0 ≡ b → Edges About (got .settled .rect)
-      go true e = let t = runOf p limit ball density landing (length cs) (length ps) in rw e (about (exec (courseOf sheet) noRect t .rect) (edges-ok (courseOf sheet) t))
+      go true e = let t = runOf shot (length cs) (length ps) in rw e (about (exec (courseOf sheet) noRect t .rect) (edges-ok (courseOf sheet) t))
       go false e = rw e (about noRect no-rect-ok)
 
   -- 01: "its count must equal the steps made"
-  pub steps-made : number ≡ 0 → got .settled .steps ≡ stepsOf (courseOf sheet) (runOf p limit ball density landing (length cs) (length ps))
-  steps-made h = settle-leaves sheet p limit ball density landing cs ps h .made
+  pub steps-made : number ≡ 0 → got .settled .steps ≡ stepsOf (courseOf sheet) (runOf shot (length cs) (length ps))
+  steps-made h = settle-leaves sheet shot cs ps h .made

@@ -19,7 +19,7 @@ fn next_entry(fd: i32) -> Replayed {
     if io::read_full(fd, &mut head) != 8 {
         return Replayed::Damaged;
     }
-    let length = course::word(&head, 0);
+    let length = octets::word(&head, 0);
     if length > 65536 {
         return Replayed::Damaged;
     }
@@ -91,7 +91,7 @@ fn main() {
     }
     let mut head = [0u8; 8];
     if io::read_full(fd, &mut head) == 8 {
-        replay_all(fd, course::word(&head, 0));
+        replay_all(fd, octets::word(&head, 0));
     } else {
         print_damaged(0);
     }

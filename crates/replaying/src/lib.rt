@@ -27,7 +27,7 @@ fn word(entry: &[u8], i: usize) -> u64
     requires { ⌜ 8 * i + 8 ≤ length (now entry) ⌝ }
     ensures { λ r. ⌜ r ≡ wholeAt (now (entry .entry)) i ⌝ }
 {
-    course::word(entry, 8 * i)
+    octets::word(entry, 8 * i)
 }
 
 // The words from word i on are these.

@@ -7,7 +7,7 @@ use lib.Ieee.{Float}
 use Rattle.state.specs.declared.BallState.{BallState}
 use Rattle.surface.specs.declared.GroundSample.{GroundSample}
 use Rattle.state.specs.declared.Phase.the-variants.{Roll as InRoll}
-use Rattle.slide.specs.declared.Stepped.{Stepped}
+use Rattle.rolling.specs.declared.Stepped.{Stepped}
 use Rattle.look.specs.Tree.{Oracle, exec, did, Did, lookTree}
 use Rattle.look.specs.declared.Rect.{Rect}
 use Rattle.look.specs.declared.Look.{Look}

@@ -10,10 +10,10 @@ use Rattle.state.specs.declared.BallState.{BallState}
 use Rattle.surface.specs.declared.GroundSample.{GroundSample}
 use Rattle.aero.specs.Aero.{radiusOf}
 use Rattle.contact.specs.Contact.{ontoOf, sampleHolds}
-use Rattle.slide.specs.ContactStep.{contactStepOf}
+use Rattle.rolling.specs.ContactStep.{contactStepOf}
 use Rattle.state.specs.declared.Phase.{Phase}
 use Rattle.state.specs.declared.Phase.the-variants.{Hop, Slide, Roll as InRoll}
-use Rattle.slide.specs.declared.Stepped.{Stepped}
+use Rattle.rolling.specs.declared.Stepped.{Stepped}
 use Rattle.tally.specs.Times.{isDue, nextAfter}
 use Rattle.tally.specs.Language.{M, _>>=_, _>>_, pure, if_then_else_, when, countStep, look, test, pushPoint, Pass, again, over}
 use Rattle.tally.specs.declared.Conditions.{Conditions}

@@ -7,7 +7,7 @@ ghost use Rattle.roll.specs.Roll.{stepOn, lastOf, pointDue, heldOf, putD
 ghost use Rattle.roll.specs.Contracts.{RollPasses};
 use look::Look;
 use records::Pushed;
-use slide::Stepped;
+use rolling::Stepped;
 use state::BallState;
 use state::Phase;
 use state::Termination;
@@ -51,7 +51,7 @@ fn step_on(c: Conditions, g: Roll) -> Stepped
     let physics = c.physics;
     let ball = c.ball;
     let h = number::min(physics.dt, c.t_end - state.time);
-    slide::contact_step(
+    rolling::contact_step(
         state,
         at,
         ball,

@@ -1,13 +1,14 @@
 -- The course sheet (01, "Course sheet"): its bytes, the tests 1 to 3, and what a look at a spot finds.
 -- Definitions only.
-use Prim.Native.Nat.{ℕ, zero, suc, _+_, _*_, _^_}
+use Prim.Native.Nat.{ℕ, zero, suc, _+_, _*_}
 use mathlib.Core.Path.{_≡_}
 use mathlib.Core.List.{List}
 use mathlib.Core.Bool.{Bool, true, false, _&&_, cond}
 use lib.Dec.{leb, ltb, eqb}
-use lib.ListN.{length, getD}
+use lib.ListN.{length}
 use lib.Ieee.{Float, binary64, ofBits, neg, le}
 use Rattle.number.specs.Ops.{_⊕_, _⊗_, dec}
+use Rattle.octets.specs.Octets.{little}
 use Rattle.number.specs.Number.{withinOf, aboutOf}
 use Rattle.vector.specs.Vec.{vec}
 use Rattle.surface.specs.declared.Restitution.{Restitution}
@@ -15,12 +16,7 @@ use Rattle.surface.specs.declared.RollLaw.{RollLaw}
 use Rattle.surface.specs.declared.Surface.{Surface}
 use Rattle.surface.specs.declared.GroundSample.{GroundSample}
 
--- ---- bytes
-
--- the number whose n bytes stand from o on, least first: byte k counts 256 ^ k
-unfoldable pub little : ℕ → List ℕ → ℕ → ℕ
-little zero s o = 0
-little (suc n) s o = little n s o + 256 ^ n * getD s (o + n) 0
+-- ---- fields
 
 -- surface count S, surface offset, patch count P, patch offset
 abbrev pub surfaces : List ℕ → ℕ

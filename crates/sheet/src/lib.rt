@@ -2,73 +2,21 @@
 ghost use mathlib.Core.Path.{_≡_};
 ghost use Prim.Native.Nat.{ℕ, _+_, _*_, _≤_, _<_};
 ghost use lib.ListN.{length};
-ghost use lib.Ieee.{binary64, ofBits};
-ghost use Rattle.sheet.specs.Sheet.{little, surfaces, field, real, headerOk, restitutionOk, lawOk, surfaceOk, edgesOk, patchOk, all, answerOf};
-
-// Numbers from bytes, least first.
-fn pair(a: u8, b: u8) -> u16
-    ensures { λ r. ⌜ r ≡ a + 256 * b ⌝ }
-{
-    (a as u16) + 256 * (b as u16)
-}
-
-fn quad(a: u16, b: u16) -> u32
-    ensures { λ r. ⌜ r ≡ a + 65536 * b ⌝ }
-{
-    (a as u32) + 65536 * (b as u32)
-}
-
-fn oct(a: u32, b: u32) -> u64
-    ensures { λ r. ⌜ r ≡ a + 4294967296 * b ⌝ }
-{
-    (a as u64) + 4294967296 * (b as u64)
-}
-
-pub fn half(s: &[u8], o: usize) -> u32
-    requires { ⌜ o + 4 ≤ length (now s) ⌝ }
-    ensures { λ r. ⌜ r ≡ little 4 (now (s .entry)) o ⌝ }
-{
-    quad(pair(s[o], s[o + 1]), pair(s[o + 2], s[o + 3]))
-}
-
-pub fn word(s: &[u8], o: usize) -> u64
-    requires { ⌜ o + 8 ≤ length (now s) ⌝ }
-    ensures { λ r. ⌜ r ≡ little 8 (now (s .entry)) o ⌝ }
-{
-    oct(half(s, o), half(s, o + 4))
-}
-
-// The double with these bits; every pattern of a NaN gives the one NaN.
-pub fn float_of(bits: u64) -> f64
-    ensures { λ r. ⌜ r ≡ ofBits binary64 bits ⌝ }
-{
-    if bits % 9223372036854775808 > 9218868437227405312 {
-        0.0 / 0.0
-    } else {
-        f64::from_bits(bits)
-    }
-}
-
-pub fn double_at(s: &[u8], o: usize) -> f64
-    requires { ⌜ o + 8 ≤ length (now s) ⌝ }
-    ensures { λ r. ⌜ r ≡ ofBits binary64 (little 8 (now (s .entry)) o) ⌝ }
-{
-    float_of(word(s, o))
-}
+ghost use Rattle.sheet.specs.Sheet.{surfaces, field, real, headerOk, restitutionOk, lawOk, surfaceOk, edgesOk, patchOk, all, answerOf};
 
 // Field j of record i.
 pub fn whole(s: &[u8], i: usize, j: usize) -> u64
     requires { ⌜ (80 + 64 * i ≤ length (now s)) × (j < 8) ⌝ }
     ensures { λ r. ⌜ r ≡ field (now (s .entry)) i j ⌝ }
 {
-    word(s, 16 + 8 * (8 * i + j))
+    octets::word(s, 16 + 8 * (8 * i + j))
 }
 
 pub fn double(s: &[u8], i: usize, j: usize) -> f64
     requires { ⌜ (80 + 64 * i ≤ length (now s)) × (j < 8) ⌝ }
     ensures { λ r. ⌜ r ≡ real (now (s .entry)) i j ⌝ }
 {
-    double_at(s, 16 + 8 * (8 * i + j))
+    octets::double_at(s, 16 + 8 * (8 * i + j))
 }
 
 fn header_ok(sheet: &[u8]) -> bool
@@ -77,10 +25,10 @@ fn header_ok(sheet: &[u8]) -> bool
     if sheet.len() < 16 {
         return false;
     }
-    let s = half(sheet, 0) as u64;
-    let at = half(sheet, 4) as u64;
-    let p = half(sheet, 8) as u64;
-    let to = half(sheet, 12) as u64;
+    let s = octets::half(sheet, 0) as u64;
+    let at = octets::half(sheet, 4) as u64;
+    let p = octets::half(sheet, 8) as u64;
+    let to = octets::half(sheet, 12) as u64;
     (1 <= s)
         & (s <= 16)
         & (at == 16)
@@ -178,8 +126,8 @@ pub fn check_sheet(sheet: &[u8]) -> u32
     if !header_ok(sheet) {
         return 1;
     }
-    let s = half(sheet, 0) as usize;
-    let p = half(sheet, 8) as usize;
+    let s = octets::half(sheet, 0) as usize;
+    let p = octets::half(sheet, 8) as usize;
     if !surfaces_ok(sheet, s) {
         return 2;
     }

@@ -1,3 +1,2 @@
 pub mod Slide
-pub mod ContactStep
 pub mod RootSearch

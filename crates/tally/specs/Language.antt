@@ -18,6 +18,8 @@ use Rattle.look.specs.declared.Look.the-variants.{Off, Saw}
 use Rattle.records.specs.Records.{Records, Put, full, put, pushed}
 use Rattle.tally.specs.declared.Conditions.{Conditions}
 
+pub use Rattle.number.specs.Ops.{if_then_else_}
+
 -- ---- the log
 
 -- a lent list: the number of records that it has room for, and those pushed so far
@@ -70,11 +72,6 @@ stopWith n l = done (ran (stops n) l)
 -- find_root runs its evaluations in this language
 abbrev pub inM : Does M
 inM = record { pure = pure; bind = _>>=_ }
-
-infix 5 if_then_else_
-abbrev pub if_then_else_ : {A : Type 0} → Bool → A → A → A
-if_then_else_ true a b = a
-if_then_else_ false a b = b
 
 unfoldable pub when : Bool → M Unit → M Unit
 when b m = if b then m else pure tt

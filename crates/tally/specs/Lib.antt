@@ -1,4 +1,3 @@
-pub mod Physics
 pub mod Times
 pub mod Language
 pub mod Contracts

@@ -2,13 +2,13 @@
 ghost use mathlib.Core.Path.{_≡_};
 ghost use Prim.Native.Nat.{_<_};
 ghost use Rattle.records.specs.Records.{Pushes};
-ghost use Rattle.tally.specs.Physics.{physicsNew};
 ghost use Rattle.tally.specs.Times.{isLate, isDue, nextAfter};
 ghost use Rattle.tally.specs.Language.{phaseNumber, pointOf, contactOf};
 ghost use Rattle.tally.specs.Contracts.{steppedT, testedT, lookedT, countedT, PushesIf};
 use aero::BallModel;
 use look::Rect;
 use records::Pushed;
+use shot::GroundPhysics;
 use state::BallState;
 use state::Phase;
 use surface::GroundSample;
@@ -17,36 +17,6 @@ use vector::DVec3;
 const TIME_EPS: f64 = 1e-9;
 
 const SAMPLE_INTERVAL: f64 = 0.01;
-
-const DEFAULT_STOP_SPEED: f64 = 0.01;
-
-const DEFAULT_ROLL_THRESHOLD: f64 = 0.01;
-
-// The tunables of the ground phase; the terrain is passed beside them.
-pub struct GroundPhysics {
-    pub dt: f64,
-    pub stop_speed: f64,
-    pub roll_threshold: f64,
-    pub min_hop_height: f64,
-    pub max_impacts: u64,
-    pub max_time: f64,
-}
-
-impl GroundPhysics {
-    // 1 ms steps, 5 mm hop transition, 0.01 m/s stop and roll thresholds, at most 200 impacts and 120 s.
-    pub fn new() -> GroundPhysics
-        ensures { λ r. ⌜ r ≡ physicsNew ⌝ }
-    {
-        GroundPhysics {
-            dt: 0.001,
-            stop_speed: DEFAULT_STOP_SPEED,
-            roll_threshold: DEFAULT_ROLL_THRESHOLD,
-            min_hop_height: 0.005,
-            max_impacts: 200,
-            max_time: 120.0,
-        }
-    }
-}
 
 // What stays the same throughout one settle.
 pub struct Conditions {

@@ -8,11 +8,9 @@ use lib.ListN.{length, drop, take, length-drop}
 use lib.Seq.{take-all}
 use borrow.Author.Needs.{needs}
 use borrow.Author.Tests.{le-leb, lt-leb}
-use Rattle.state.specs.declared.BallState.{BallState}
-use Rattle.aero.specs.declared.BallModel.{BallModel}
-use Rattle.tally.specs.declared.GroundPhysics.{GroundPhysics}
+use Rattle.shot.specs.declared.Shot.{Shot}
 use Rattle.ground.specs.Settle.{Result, result, refusal, settleOf}
-use Rattle.input.specs.Input.{physicsAt, stepLimitAt, ballAt, densityAt, landingAt, settleInputOf}
+use Rattle.input.specs.Input.{shotAt, settleInputOf}
 use Rattle.input.proofs.settle_input.Statement.{statement}
 use Rattle.input.proofs.settle_input.Tie as tie
 
@@ -25,16 +23,16 @@ module _ (s : List ℕ) (lc lp : List Float) where
   unfolding settleInputOf
   long h k = rw (le-leb 240 (length s) h, lt-leb (length s) 34048 k)
 
-  fits : 240 ≤ length s → length s ≤ 34048 → settleInputOf s lc lp ≡ settleOf (drop 240 s) (physicsAt s) (stepLimitAt s) (ballAt s) (densityAt s) (landingAt s) lc lp
+  fits : 240 ≤ length s → length s ≤ 34048 → settleInputOf s lc lp ≡ settleOf (drop 240 s) (shotAt s) lc lp
   unfolding settleInputOf
   fits h k = rw (le-leb 240 (length s) h, le-leb (length s) 34048 k)
 
 part : (s : List ℕ) → take (length s - 240) (drop 240 s) ≡ drop 240 s
 part s = take-all (length s - 240) (drop 240 s) (omega (arith, length-drop 240 s))
 
-module _ (s : List ℕ) (lc lp : List Float) {w : Result} {t : List ℕ} {p : GroundPhysics} {n : ℕ} {b : BallModel} {d : Float} {l : BallState} where
-  settles : w ≡ settleOf t p n b d l lc lp → t ≡ drop 240 s → p ≡ physicsAt s → n ≡ stepLimitAt s → b ≡ ballAt s → d ≡ densityAt s → l ≡ landingAt s → 240 ≤ length s → length s ≤ 34048 → w ≡ settleInputOf s lc lp
-  settles x x0 x1 x2 x3 x4 x5 h k = rw (x, x0, x1, x2, x3, x4, x5, fits s lc lp h k)
+module _ (s : List ℕ) (lc lp : List Float) {w : Result} {t : List ℕ} {shot : Shot} where
+  settles : w ≡ settleOf t shot lc lp → t ≡ drop 240 s → shot ≡ shotAt s → 240 ≤ length s → length s ≤ 34048 → w ≡ settleInputOf s lc lp
+  settles x y z h k = rw (x, y, z, fits s lc lp h k)
 
 returns : tie.Need-returns
 returns c =
@@ -48,16 +46,8 @@ returns-2 c =
 
 returns-3 : tie.Need-returns-3
 returns-3 c =
-    let a = c .before .before .before .before .before .before .before .before .before .before .before .before .before .before .before .before .before .before .args in
-    settles (a .input .now) (a .contacts .now) (a .points .now)
-    (c .before .before .before .before .settle .ensures)
-    (part (a .input .now))
-    (c .before .before .before .before .before .before .before .before .before .before .before .before .physics-at .ensures)
-    (c .before .before .before .before .before .before .before .before .before .before .before .whole .ensures)
-    (c .before .before .before .before .before .before .before .before .before .before .ball-at .ensures)
-    (c .before .before .before .before .before .before .before .before .before .real .ensures)
-    (c .before .before .before .before .before .before .before .before .landing-at .ensures)
-    (c .before .before .before .before .before .before .before .before .before .before .before .before .before .before .if1 .left) (c .before .before .before .before .before .before .before .before .before .before .before .before .before .if2 .left)
+    let a = c .before .before .before .before .before .before .before .before .before .before .before .before .before .before .args in
+    settles (a .input .now) (a .contacts .now) (a .points .now) (c .before .before .before .before .settle .ensures) (part (a .input .now)) (c .before .before .before .before .before .before .before .before .shot-at .ensures) (c .before .before .before .before .before .before .before .before .before .before .if1 .left) (c .before .before .before .before .before .before .before .before .before .if2 .left)
 
 pub settle-input-spec : {M : Type 1} → statement M
 settle-input-spec =
@@ -67,10 +57,6 @@ settle-input-spec =
     returns
     (λ c κs. tt)
     returns-2
-    (λ c κs. search needs)
-    (λ c κs. search needs)
-    (λ c κs. search needs)
-    (λ c κs. search needs)
     (λ c κs. search needs)
     (λ c. search needs)
     (λ c. search needs)

@@ -5,11 +5,17 @@ use Rattle.slide.proofs.slide_on_slope.Tie as tie
 
 returns : tie.Need-returns
 unfolding slideOnSlope
-returns c h = simp (← c .before .before .before .slip-decay .ensures, ← c .before .before .length .ensures, ← (c .slide-turning .ensures h), c .before .if1 .taken)
+returns c = simp (← c .before .before .before .slip-decay .ensures, ← c .before .before .length .ensures, ← c .slide-turning .ensures, c .before .if1 .taken)
 
 returns-2 : tie.Need-returns-2
 unfolding slideOnSlope
-returns-2 c h = simp (← c .before .before .before .slip-decay .ensures, ← c .before .before .length .ensures, ← (c .slide-to-threshold .ensures h), c .before .if1 .left)
+returns-2 c = simp (← c .before .before .before .slip-decay .ensures, ← c .before .before .length .ensures, ← c .slide-to-threshold .ensures, c .before .if1 .left)
+
+slide-turning-requires : tie.Need-slide-turning-requires
+slide-turning-requires c κs = c .before .before .before .before .pre
+
+slide-to-threshold-requires : tie.Need-slide-to-threshold-requires
+slide-to-threshold-requires c κs = c .before .before .before .before .pre
 
 pub slide-on-slope-spec : {M : Type 1} → statement M
-slide-on-slope-spec = tie.close (tie.spec (λ c κs. tt) (λ c κs. tt) (λ c κs. tt) returns (λ c κs. tt) returns-2)
+slide-on-slope-spec = tie.close (tie.spec (λ c κs. tt) (λ c κs. tt) slide-turning-requires returns slide-to-threshold-requires returns-2)

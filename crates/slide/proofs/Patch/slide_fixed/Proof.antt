@@ -1,7 +1,7 @@
 -- `slide_fixed` meets its contract.
 use Rattle.slide.specs.Slide.{slideFixed}
 use lib.Ieee.{ofBits, round}
-use Rattle.slide.proofs.Stages.{stages}
+use Rattle.rk4.proofs.Stages.{stages}
 use Rattle.slide.proofs.Patch.slide_fixed.Statement.{statement}
 use Rattle.slide.proofs.Patch.slide_fixed.Tie as tie
 

@@ -1,0 +1,3 @@
+pub mod Physics
+pub mod Tests
+pub mod Passed

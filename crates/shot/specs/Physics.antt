@@ -1,0 +1,15 @@
+-- Definitions. The defaults of `GroundPhysics`.
+use Rattle.number.specs.Ops.{dec}
+use Rattle.shot.specs.declared.GroundPhysics.{GroundPhysics}
+
+-- ground.rs, GroundPhysics::new
+unfoldable pub physicsNew : GroundPhysics
+physicsNew =
+    record {
+      dt = dec 1 1000;
+      «stop_speed» = dec 1 100;
+      «roll_threshold» = dec 1 100;
+      «min_hop_height» = dec 5 1000;
+      «max_impacts» = 200;
+      «max_time» = dec 120 1;
+    }
