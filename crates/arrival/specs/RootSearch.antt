@@ -1,7 +1,8 @@
--- The search in the hop: at most 200 looks, and a time within its bracket. Assumes nothing.
-use Prim.Native.Nat.{ℕ, suc, _≤_}
+-- Statements. The search in the hop: at most 200 looks, and a time within its bracket. Assumes nothing.
+use Prim.Native.Nat.{ℕ, suc, _+_, _≤_}
 use native.Mathlib.Omega.{arith}
-use mathlib.Core.Bool.{Bool, true, false, cond}
+use mathlib.Core.Bool.{cond}
+use mathlib.Core.List.{[], _∷_}
 use lib.Dec.{T}
 use lib.Ieee.{Float, binary64, fits, lt}
 use lib.Ieee.Fits.{cond-fits}
@@ -10,58 +11,48 @@ use Rattle.number.specs.Ops.{_⊖_}
 use Rattle.number.specs.Number.{clampOf}
 use Rattle.vector.specs.declared.DVec3.{DVec3}
 use Rattle.flight.specs.Arc.{dropTime, drop-fits}
-use Rattle.look.specs.Rect.{spotOk}
-use Rattle.look.specs.Tree.{Oracle, run, looks, bind, note, answer, run-bind, looks-bind}
+use Rattle.look.specs.Tree.{Oracle, run, looks}
 use Rattle.search.specs.Search.{findRoot}
 use Rattle.search.specs.Evaluations.{Counts, Every, Ends, Within, every-at-most-200, every-within}
 use Rattle.search.specs.declared.Bracket.{Bracket}
-use Rattle.tally.specs.Language.{M, Log, Outcome, goes, stops, Ran, pure, onward, seenAt, look, inM, _>>=_}
+use Rattle.tally.specs.Language.{M, Log, Outcome, goes, stops, pure, look, inM, _>>=_}
+use Rattle.tally.specs.Triple.{Past, spot, After, Triple, of-run, of-every-run, t-any, t-after, t-bind, t-pure, t-look}
 use Rattle.arrival.specs.declared.Arc.{Arc}
 use Rattle.arrival.specs.Arrival.{clearance, clearanceAt, arcOf, endValue, guessIn, endingAt, crossingTime}
 
 -- ---- looks
 
--- at most n looks, on every course and from every log
+-- n spots looked at, or fewer
+abbrev Few : ℕ → Past → Type 0
+Few n w = length (w .spots) ≤ n
+
+-- at most n looks more, on every course and whatever was looked at before
 abbrev pub LooksAtMost : {A : Type 0} → ℕ → M A → Type 0
-LooksAtMost n m = (o : Oracle) (l : Log) → length (looks o (m l)) ≤ n
+LooksAtMost n m = (o : Oracle) (k : ℕ) → Triple o (Few k) m (λ _. Few (n + k)) (λ _. Few (n + k))
 
 looks-pure : {A : Type 0} (n : ℕ) (a : A) → LooksAtMost n (pure a)
-unfolding looks
-looks-pure n a o l = omega arith
+looks-pure n a o k = t-pure (λ w h. omega (arith, h))
 
-module _ {A B : Type 0} (n : ℕ) (x : M A) (k : A → M B) (g : (a : A) → LooksAtMost n (k a)) where
-  looks-onward : (r : Outcome A) → LooksAtMost n (onward k r)
-  unfolding looks
-  looks-onward (goes a) o l = g a o l
-  looks-onward (stops i) o l = omega arith
-
-  looks-then : LooksAtMost 1 x → LooksAtMost (suc n) (x >>= k)
-  unfolding _>>=_
-  looks-then h o l =
-      let r = run o (x l) in
-      let one = h o l in
-      let rest = looks-onward (r .outcome) o (r .log) in
-      rw (looks-bind o (x l) (λ (r : Ran A). onward k (r .outcome) (r .log)), length-append) (omega arith)
+looks-then : {A B : Type 0} (n : ℕ) (x : M A) (k : A → M B) → LooksAtMost 1 x → ((a : A) → LooksAtMost n (k a)) → LooksAtMost (suc n) (x >>= k)
+looks-then n x k h g o j =
+    t-bind (t-after (λ a w i. i) (λ i w q. omega (arith, q)) (h o j)) (λ a. t-after (λ b w i. omega (arith, i)) (λ i w q. omega (arith, q)) (g a o (1 + j)))
 
 abbrev counts-looks : Counts inM
-counts-looks = record { atMost = LooksAtMost; of-pure = looks-pure; of-bind = λ n x k h g. looks-then n x k g h }
+counts-looks = record { atMost = LooksAtMost; of-pure = looks-pure; of-bind = looks-then }
 
 -- a look at a spot that fails its test is not made
 look-once : (x z : Float) → LooksAtMost 1 (look x z)
-unfolding look bind looks
-look-once x z o l = go (spotOk x z)
-  where
-    go : (b : Bool) → length (note b (record { x = x; z = z }) (looks o (seenAt (answer b (o x z)) l))) ≤ 1
-    go true = omega arith
-    go false = omega arith
+look-once x z o k = t-look x z (λ w h _. rw (length-append (w .spots) (spot x z ∷ [])) (omega (arith, h))) (λ w h _. omega (arith, h))
 
 clearance-once : (p : DVec3) → LooksAtMost 1 (clearance p)
 unfolding clearance
-clearance-once p = looks-then 0 (look (p .x) (p .z)) _ (λ s. looks-pure 0 _) (look-once (p .x) (p .z))
+clearance-once p = looks-then 0 (look (p .x) (p .z)) _ (look-once (p .x) (p .z)) (λ s. looks-pure 0 _)
 
 -- 01: "at most 200 evaluations"
 pub at-most-200-looks : (arc : Arc) (b : Bracket) (guess : Float) (o : Oracle) (l : Log) → length (looks o (findRoot inM (clearanceAt arc) b guess l)) ≤ 200
-at-most-200-looks arc = every-at-most-200 counts-looks (clearanceAt arc) (λ tau. unfold clearanceAt in clearance-once (arcOf arc tau .pos))
+at-most-200-looks arc b guess o l =
+    let few = every-at-most-200 counts-looks (clearanceAt arc) (λ tau. unfold clearanceAt in clearance-once (arcOf arc tau .pos)) b guess o 0 in
+    of-every-run o few l (omega arith)
 
 -- ---- the time
 
@@ -69,32 +60,26 @@ abbrev pub Goes : {A : Type 0} → (A → Type 0) → Outcome A → Type 0
 Goes P (goes a) = P a
 Goes P (stops n) = Unit
 
--- P of the value that a part gives, if it gives one, on every course and from every log
+-- P of the value that a part gives, if it gives one, on every course and whatever went before
 abbrev pub Gives : {A : Type 0} → (A → Type 0) → M A → Type 0
-Gives P m = (o : Oracle) (l : Log) → Goes P (run o (m l) .outcome)
+Gives P m = (o : Oracle) → Triple o (λ _. Unit {0}) m (λ a _. P a) (λ _ _. Unit {0})
+
+-- of the run itself
+pub given : {A : Type 0} (P : A → Type 0) (m : M A) → Gives P m → (o : Oracle) (l : Log) → Goes P (run o (m l) .outcome)
+given {A} P m h o l = go (run o (m l) .outcome) _ (of-run o (h o) l tt)
+  where
+    go : (x : Outcome A) (w : Past) → After (λ a _. P a) (λ _ _. Unit {0}) x w → Goes P x
+    go (goes a) w q = q
+    go (stops n) w q = tt
 
 pub gives-pure : {A : Type 0} (P : A → Type 0) (a : A) → P a → Gives P (pure a)
-unfolding run
-gives-pure P a p o l = p
+gives-pure P a p o = t-pure (λ w _. p)
 
-module _ {A B : Type 0} (Q : A → Type 0) (P : B → Type 0) (x : M A) (k : A → M B) (g : (a : A) → Q a → Gives P (k a)) where
-  gives-onward : (r : Outcome A) → Goes Q r → Gives P (onward k r)
-  unfolding run
-  gives-onward (goes a) q o l = g a q o l
-  gives-onward (stops i) q o l = tt
+pub gives-then : {A B : Type 0} (Q : A → Type 0) (P : B → Type 0) (x : M A) (k : A → M B) → ((a : A) → Q a → Gives P (k a)) → Gives Q x → Gives P (x >>= k)
+gives-then Q P x k g h o = t-bind (h o) (λ a. record { all = λ w q. g a q o .all w tt })
 
-  pub gives-then : Gives Q x → Gives P (x >>= k)
-  unfolding _>>=_
-  gives-then h o l =
-      let r = run o (x l) in
-      rw (run-bind o (x l) (λ (r : Ran A). onward k (r .outcome) (r .log))) (gives-onward (r .outcome) (h o l) o (r .log))
-
-gives-any : {A : Type 0} (x : M A) → Gives (λ _. Unit) x
-gives-any {A} x o l = go (run o (x l) .outcome)
-  where
-    go : (r : Outcome A) → Goes (λ _. Unit) r
-    go (goes a) = tt
-    go (stops n) = tt
+gives-any : {A : Type 0} (x : M A) → Gives (λ _. Unit {0}) x
+gives-any x o = t-any x
 
 pub gives-bind : {A B : Type 0} (P : B → Type 0) (x : M A) (k : A → M B) → ((a : A) → Gives P (k a)) → Gives P (x >>= k)
 gives-bind P x k g = gives-then (λ _. Unit) P x k (λ a _. g a) (gives-any x)

@@ -1,23 +1,31 @@
--- What every part of a settle keeps, word by word: a sound log, which counts the steps made, and no more of them than it may make.
-use Prim.Native.Nat.{ℕ, zero, suc, _+_, _-_, _≤_, _<_}
+-- Definitions. What every part of a settle keeps, word by word, in the logic of Triple: sound lists and counts, and the reasons of 20 to 23.
+use Prim.Native.Nat.{ℕ, zero, suc, _+_, _≤_, _<_}
 use native.Mathlib.Omega.{arith}
 use mathlib.Core.Path.{_≡_, refl, ap, _∙_, sym}
 use mathlib.Core.Bool.{Bool, true, false}
 use mathlib.Core.List.{List, [], _∷_, _++_}
-use lib.Dec.{ltb}
 use lib.Ieee.{Float}
-use lib.ListN.{length, take, length-append, length-take}
-use borrow.Author.Tests.{ltb-true}
+use lib.ListN.{length, take, length-append}
+use Rattle.number.specs.Ops.{_⊕_}
 use Rattle.state.specs.declared.BallState.{BallState}
-use Rattle.surface.specs.declared.GroundSample.{GroundSample}
 use Rattle.state.specs.declared.Phase.{Phase}
-use Rattle.look.specs.Rect.{spotOk}
-use Rattle.look.specs.Tree.{Tree, Oracle, run, run-bind, bind, answer}
-use Rattle.look.specs.Resume.{steps as stepsOf, steps-bind}
-use Rattle.records.specs.Records.{Records, pick, put, full, pushed}
 use Rattle.state.specs.State.{stateOk}
-use Rattle.tally.specs.Language.{M, Log, Lent, Outcome, goes, stops, Ran, ran, onward, _>>=_, pure, stopWith, if_then_else_, when, look, test, pushPoint, pushContact, mark, truncate, countStep, stepsLeft, loop, Pass, again, over, pointOf, contactOf, point, contact, seenAt}
+use Rattle.surface.specs.declared.GroundSample.{GroundSample}
+use Rattle.aero.specs.Aero.{fromSpinVector}
+use Rattle.impact.specs.Impact.{impactOf}
+use Rattle.look.specs.Rect.{spotOk}
+use Rattle.look.specs.Tree.{Oracle, Spot}
+use Rattle.records.specs.Records.{Records}
+use Rattle.tally.specs.Language.{M, Log, Lent, tested, withPoints, withContacts, pointOf, contactOf}
+use Rattle.tally.specs.Language.{look, test, pushPoint, pushContact, mark, truncate, countStep, stepsLeft, when}
 use Rattle.tally.specs.declared.Conditions.{Conditions}
+use Rattle.arrival.specs.Arrival.{arcOf, placed}
+use Rattle.hop.specs.Hop.{stepArc, stepEnd}
+use Rattle.roll.specs.Roll.{stepOn, putDown}
+use Rattle.roll.specs.declared.Roll.{Roll}
+use Rattle.strike.specs.Strike.{struck, dropped}
+use Rattle.strike.specs.declared.Struck.{Struck}
+use Rattle.tally.specs.Triple.{Past, spot, Triple, t-look, t-test, t-point, t-contact, t-mark, t-truncate, t-step, t-left, t-when, t-know}
 
 abbrev pub Each : (List Float → Type 0) → Records → Type 0
 Each P [] = Unit
@@ -36,6 +44,31 @@ take-few : (n : ℕ) (rs : Records) → length (take n rs) ≤ length rs
 take-few zero rs = omega arith
 take-few (suc n) [] = omega arith
 take-few (suc n) (r ∷ rs) = let h = take-few n rs in omega arith
+
+one-more : (rs : Records) (r : List Float) → length (rs ++ (r ∷ [])) ≡ suc (length rs)
+one-more rs r = length-append rs (r ∷ []) ∙ omega arith
+
+-- a lent list with room for n records, each with P
+pub record Listed (P : List Float → Type 0) (n : ℕ) (l : Lent) : Type 0 where
+  pub each : Each P (l .records)
+  pub few : length (l .records) ≤ n
+  pub room : l .room ≡ n
+
+module _ (P : List Float → Type 0) (n : ℕ) (l : Lent) where
+  more : (r : List Float) → Listed P n l → P r → length (l .records) < l .room → Listed P n (record { room = l .room; records = l .records ++ (r ∷ []) })
+  more r h p i =
+      record { each = each-more P (l .records) r (h .each) p; few = rw (one-more (l .records) r) (let e = h .room in omega (arith, i, e)); room = h .room }
+
+  fewer : (j : ℕ) → Listed P n l → Listed P n (record { room = l .room; records = take j (l .records) })
+  fewer j h =
+      record { each = each-take P j (l .records) (h .each); few = (let a = take-few j (l .records) in let b = h .few in omega (arith, a, b)); room = h .room }
+
+  is-full : Listed P n l → l .room ≤ length (l .records) → length (l .records) ≡ n
+  is-full h i = let a = h .few in let e = h .room in omega (arith, a, e, i)
+
+-- passed test 22
+abbrev pub Ok : BallState → Type 0
+Ok s = stateOk s ≡ true
 
 -- a point of a state that passed its test
 pub record PointOf (r : List Float) : Type 0 where
@@ -61,202 +94,169 @@ module _ (o : Oracle) where
     pub seen : SampleOf sample
     pub is : r ≡ contactOf arrival sample departure
 
-  module _ (rc rp : ℕ) where
-    pub record Sound (l : Log) : Type 0 where
-      pub good : stateOk (l .good) ≡ true
-      pub contacts : Each ContactOf (l .contacts .records)
-      pub points : Each PointOf (l .points .records)
-      pub few-contacts : length (l .contacts .records) ≤ rc
-      pub few-points : length (l .points .records) ≤ rp
-      pub room-contacts : l .contacts .room ≡ rc
-      pub room-points : l .points .room ≡ rp
+  -- the course under a state
+  abbrev pub under : BallState → GroundSample
+  under s = o (s .pos .x) (s .pos .z)
 
-    -- a value with Q; or a stop, which R says of
-    abbrev pub After : {A : Type 0} → (A → Type 0) → (ℕ → Type 0) → Outcome A → Type 0
-    After Q R (goes a) = Q a
-    After Q R (stops n) = R n
+  module _ (c : Conditions) where
+    -- the sample under a state, and the state after its impact there
+    abbrev pub struckAt : BallState → Struck
+    struckAt s = struck (under s) (impactOf s (under s) (c .ball))
 
-    -- no part but a loop says 23
-    abbrev pub Early : ℕ → Type 0
-    Early j = (20 ≤ j) × (j ≤ 22)
+    -- the states that are tested, s where g is the last that passed. 01: "the state after each impact, hop step, arrival, drop to the ground and
+    -- ground step"
+    pub data Follows (g s : BallState) : Type 0 where
+      impact : s ≡ impactOf g (under g) (c .ball) → Follows g s
+      hop-step : s ≡ stepEnd (stepArc c (fromSpinVector (g .spin)) g) g → Follows g s
+      -- tau into the hop step from f that ended at g
+      arrival : (f : BallState) (tau : Float) → g ≡ stepEnd (stepArc c (fromSpinVector (f .spin)) f) f
+          → (let a = arcOf (stepArc c (fromSpinVector (f .spin)) f) tau in s ≡ placed a (f .time ⊕ tau) (o (a .pos .x) (a .pos .z) .height) (f .spin))
+          → Follows g s
+      -- from the impact of f, which g itself follows
+      drop : (f : BallState) → s ≡ dropped c (struckAt f) → Follows g s
+      ground-step : (r : Roll) → r .state ≡ g → SampleOf (r .«at») → s ≡ putDown c r (stepOn c r) (under (stepOn c r .state)) → Follows g s
 
-    -- 20 to 23, and P where it is 23
-    abbrev pub Stop : Type 0 → ℕ → Type 0
-    Stop P j = (20 ≤ j) × (j ≤ 23) × (j ≡ 23 → P)
+    -- the test that failed: of a spot, the one that failed; or of a state that followed the last good one, each spot having passed
+    pub data Failed (off : List Spot) (good : BallState) : Type 0 where
+      of-spot : (p : Spot) → off ≡ p ∷ [] → spotOk (p .x) (p .z) ≡ false → Failed off good
+      of-state : off ≡ [] → (s : BallState) → Follows good s → stateOk s ≡ false → Failed off good
 
-    early : (P : Type 0) (j : ℕ) → Early j → Stop P j
-    early P j h = (h .0, let i = h .1 in omega (arith, i), λ e. absurd (let i = h .1 in omega (arith, i, e)))
+-- what stays the same throughout a run: the course, the conditions, the records that each list has room for, the most contacts that it may push
+pub record Setting : Type 0 where
+  pub course : Oracle
+  pub conditions : Conditions
+  pub contacts : ℕ
+  pub points : ℕ
+  pub most : ℕ
 
-    -- k steps made, which the log counts: n
-    pub record Kept {A : Type 0} (n : ℕ) (Q : A → Type 0) (l : Log) (k : ℕ) (r : Ran A) : Type 0 where
-      pub sound : Sound (r .log)
-      pub steps : r .log .steps ≡ l .steps + n
-      pub made : k ≡ n
-      pub value : After Q Early (r .outcome)
+module _ (e : Setting) where
+  -- the log counts the steps made
+  pub record Sound (l : Log) (made : ℕ) : Type 0 where
+    pub good : Ok (l .good)
+    pub contacts : Listed (ContactOf (e .course)) (e .contacts) (l .contacts)
+    pub points : Listed PointOf (e .points) (l .points)
+    pub few-impacts : length (l .contacts .records) ≤ e .most
+    pub counted : (l .steps ≡ made) × (l .steps ≤ e .conditions .«step_limit»)
 
-    -- from a sound log: a sound log, n steps more, a value with Q
-    pub record Keeps {A : Type 0} (n : ℕ) (Q : A → Type 0) (m : M A) : Type 0 where
-      pub all : (l : Log) → Sound l → Kept n Q l (stepsOf o (m l)) (run o (m l))
+  -- why a run stops
+  pub data Why (w : Past) : ℕ → Type 0 where
+    contacts-full : w .off ≡ [] → length (w .log .contacts .records) ≡ e .contacts → Why w 20
+    points-full : w .off ≡ [] → length (w .log .points .records) ≡ e .points → Why w 21
+    failed : Failed (e .course) (e .conditions) (w .off) (w .log .good) → Why w 22
+    limit-reached : w .off ≡ [] → w .log .steps ≡ e .conditions .«step_limit» → Why w 23
 
-    abbrev pub Any : {A : Type 0} → A → Type 0
-    Any a = Unit
+  pub record Stops (n : ℕ) (w : Past) : Type 0 where
+    pub sound : Sound (w .log) (w .made)
+    pub why : Why w n
 
-    abbrev pub Ok : BallState → Type 0
-    Ok s = stateOk s ≡ true
+  -- on the way: F of the steps and of the number of contacts, g the last state that passed its test
+  pub record At (F : ℕ → ℕ → Type 0) (g : BallState) (w : Past) : Type 0 where
+    pub sound : Sound (w .log) (w .made)
+    pub frame : F (w .log .steps) (length (w .log .contacts .records))
+    pub good : w .log .good ≡ g
+    pub on : w .off ≡ []
 
-    pub keeps-bind : {A B : Type 0} {a : ℕ} {Q : A → Type 0} {R : B → Type 0} {m : M A} {k : A → M B} → Keeps a Q m → ((x : A) → Q x → Keeps 0 R (k x)) → Keeps a R (m >>= k)
-    unfolding _>>=_ run stepsOf
-    keeps-bind {A} {B} {a} {Q} {R} {m} {k} f g = record { all = λ l s. let h = f .all l s in let c : Ran A → Tree (Ran B) = λ r. onward k (r .outcome) (r .log) in rw (run-bind o (m l) c, steps-bind o (m l) c) (go l (stepsOf o (m l)) (run o (m l) .outcome) (run o (m l) .log) (h .sound) (h .steps) (h .made) (h .value)) }
-      where
-        go : (l : Log) (j : ℕ) (x : Outcome A) (l' : Log) → Sound l' → l' .steps ≡ l .steps + a → j ≡ a → After Q Early x → Kept a R l (j + stepsOf o (onward k x l')) (run o (onward k x l'))
-        go l j (goes x) l' s e i q = let h = g x q .all l' s in record { sound = h .sound; steps = let u = h .steps in omega (arith, e, u); made = let u = h .made in omega (arith, i, u); value = h .value }
-        go l j (stops n) l' s e i q = record { sound = s; steps = e; made = omega (arith, i); value = q }
+  -- with n steps left; G of the number of contacts
+  abbrev pub Within : ℕ → (ℕ → Type 0) → ℕ → ℕ → Type 0
+  Within n G j k = (n + j ≡ e .conditions .«step_limit») × G k
 
-    pub k-pure : {A : Type 0} {Q : A → Type 0} (a : A) → Q a → Keeps 0 Q (pure a)
-    unfolding run stepsOf
-    k-pure a q = record { all = λ l s. record { sound = s; steps = omega arith; made = refl; value = q } }
+  -- from P, a part goes on with Q or stops as a run may
+  abbrev pub Keeps : {A : Type 0} → (Past → Type 0) → M A → (A → Past → Type 0) → Type 0
+  Keeps P m Q = Triple (e .course) P m Q Stops
 
-    pub k-if : {A : Type 0} {n : ℕ} {Q : A → Type 0} {m m' : M A} (b : Bool) → Keeps n Q m → Keeps n Q m' → Keeps n Q (if b then m else m')
-    k-if true h h' = h
-    k-if false h h' = h'
+module _ {e : Setting} where
+  pub at-ok : {F : ℕ → ℕ → Type 0} {g : BallState} {w : Past} → At e F g w → Ok g
+  at-ok a = rw (a .good) at (a .sound .good)
 
-    pub k-when : {m : M Unit} (b : Bool) → Keeps 0 Any m → Keeps 0 Any (when b m)
-    unfolding when
-    k-when true h = h
-    k-when false h = k-pure tt tt
+  pub at-frame : {F F' : ℕ → ℕ → Type 0} {g : BallState} {w : Past} → ((j k : ℕ) → F j k → F' j k) → At e F g w → At e F' g w
+  at-frame f a = record { sound = a .sound; frame = f _ _ (a .frame); good = a .good; on = a .on }
 
-    pub k-look : (x z : Float) → Keeps 0 SampleOf (look x z)
-    unfolding look run stepsOf bind
-    k-look x z = record { all = λ l s. go l s (spotOk x z) }
-      where
-        go : (l : Log) → Sound l → (b : Bool) → Kept 0 SampleOf l (stepsOf o (seenAt (answer b (o x z)) l)) (run o (seenAt (answer b (o x z)) l))
-        go l s true = record { sound = s; steps = omega arith; made = refl; value = record { x = x; z = z; is = refl } }
-        go l s false = record { sound = s; steps = omega arith; made = refl; value = (omega arith, omega arith) }
+  -- what a word changes of a sound log
+  module _ {l : Log} {n : ℕ} where
+    sound-tested : (s : BallState) → Ok s → Sound e l n → Sound e (tested s l) n
+    sound-tested s ok h = record { good = ok; contacts = h .contacts; points = h .points; few-impacts = h .few-impacts; counted = h .counted }
 
-    pub k-test : (b : BallState) → Keeps 0 Ok (test b)
-    unfolding test run stepsOf
-    k-test b = record { all = λ l s. go l s (stateOk b) refl }
-      where
-        go : (l : Log) → Sound l → (t : Bool) → stateOk b ≡ t → Kept 0 Ok l (stepsOf o (test b l)) (run o (test b l))
-        go l s true e = rw e (record { sound = record { good = e; contacts = s .contacts; points = s .points; few-contacts = s .few-contacts; few-points = s .few-points; room-contacts = s .room-contacts; room-points = s .room-points }; steps = omega arith; made = refl; value = e })
-        go l s false e = rw e (record { sound = s; steps = omega arith; made = refl; value = (omega arith, omega arith) })
+    sound-points : {rs : Records} → Listed PointOf (e .points) (withPoints rs l .points) → Sound e l n → Sound e (withPoints rs l) n
+    sound-points p h = record { good = h .good; contacts = h .contacts; points = p; few-impacts = h .few-impacts; counted = h .counted }
 
-    pub k-count : Keeps 1 Any countStep
-    unfolding countStep run stepsOf
-    k-count = record { all = λ l s. record { sound = record { good = s .good; contacts = s .contacts; points = s .points; few-contacts = s .few-contacts; few-points = s .few-points; room-contacts = s .room-contacts; room-points = s .room-points }; steps = omega arith; made = refl; value = tt } }
+    sound-contacts : {rs : Records} → Listed (ContactOf (e .course)) (e .contacts) (withContacts rs l .contacts) → length rs ≤ e .most
+        → Sound e l n → Sound e (withContacts rs l) n
+    sound-contacts c f h = record { good = h .good; contacts = c; points = h .points; few-impacts = f; counted = h .counted }
 
-    pub k-mark : Keeps 0 Any mark
-    unfolding mark run stepsOf
-    k-mark = record { all = λ l s. record { sound = s; steps = omega arith; made = refl; value = tt } }
+  -- ---- the words
 
-    pub k-truncate : (j : ℕ) → Keeps 0 Any (truncate j)
-    unfolding truncate run stepsOf
-    k-truncate j = record { all = λ l s. record { sound = record { good = s .good; contacts = s .contacts; points = each-take PointOf j (l .points .records) (s .points); few-contacts = s .few-contacts; few-points = (let a = take-few j (l .points .records) in let b = s .few-points in omega (arith, a, b)); room-contacts = s .room-contacts; room-points = s .room-points }; steps = omega arith; made = refl; value = tt } }
+  module _ {F : ℕ → ℕ → Type 0} {g : BallState} where
+    pub a-look : (x z : Float) → Keeps e (At e F g) (look x z) (λ s w. At e F g w × (s ≡ e .course x z))
+    a-look x z =
+        t-look x z (λ w a _. (record { sound = a .sound; frame = a .frame; good = a .good; on = a .on }, refl))
+        (λ w a t. record { sound = a .sound; why = failed (of-spot (spot x z) (rw (a .on)) t) })
 
-    pub k-point : (b : BallState) (f : Phase) → Ok b → Keeps 0 Any (pushPoint b f)
-    unfolding pushPoint pushed run stepsOf
-    k-point b f ok = record { all = λ l s. go l s (ltb (length (l .points .records)) (l .points .room)) refl }
-      where
-        go : (l : Log) → Sound l → (t : Bool) → ltb (length (l .points .records)) (l .points .room) ≡ t → Kept 0 Any l (stepsOf o (pushPoint b f l)) (run o (pushPoint b f l))
-        go l s true e = let i = ltb-true (length (l .points .records)) (l .points .room) e in
-            rw e (record { sound = record { good = s .good; contacts = s .contacts; points = each-more PointOf (l .points .records) (pointOf b f) (s .points) (record { state = b; phase = f; ok = ok; is = refl }); few-contacts = s .few-contacts; few-points = rw (length-append (l .points .records) (pointOf b f ∷ [])) (let r = s .room-points in omega (arith, i, r)); room-contacts = s .room-contacts; room-points = s .room-points }; steps = omega arith; made = refl; value = tt })
-        go l s false e = rw e (record { sound = s; steps = omega arith; made = refl; value = (omega arith, omega arith) })
+    pub a-test : (s : BallState) → Follows (e .course) (e .conditions) g s → Keeps e (At e F g) (test s) (λ b w. At e F b w × (b ≡ s))
+    a-test s f =
+        t-test s (λ w a t. (record { sound = sound-tested s t (a .sound); frame = a .frame; good = refl; on = a .on }, refl))
+        (λ w a t. record { sound = a .sound; why = failed (of-state (a .on) s (rw (a .good) f) t) })
 
-    pub k-contact : (a : BallState) (g : GroundSample) (b : BallState) → Ok a → SampleOf g → Ok b → Keeps 0 Any (pushContact a g b)
-    unfolding pushContact pushed run stepsOf
-    k-contact a g b ka kg kb = record { all = λ l s. go l s (ltb (length (l .contacts .records)) (l .contacts .room)) refl }
-      where
-        go : (l : Log) → Sound l → (t : Bool) → ltb (length (l .contacts .records)) (l .contacts .room) ≡ t → Kept 0 Any l (stepsOf o (pushContact a g b l)) (run o (pushContact a g b l))
-        go l s true e = let i = ltb-true (length (l .contacts .records)) (l .contacts .room) e in
-            rw e (record { sound = record { good = s .good; contacts = each-more ContactOf (l .contacts .records) (contactOf a g b) (s .contacts) (record { arrival = a; sample = g; departure = b; came = ka; left = kb; seen = kg; is = refl }); points = s .points; few-contacts = rw (length-append (l .contacts .records) (contactOf a g b ∷ [])) (let r = s .room-contacts in omega (arith, i, r)); few-points = s .few-points; room-contacts = s .room-contacts; room-points = s .room-points }; steps = omega arith; made = refl; value = tt })
-        go l s false e = rw e (record { sound = s; steps = omega arith; made = refl; value = (omega arith, omega arith) })
+    pub a-point : (s : BallState) (f : Phase) → Ok s → Keeps e (At e F g) (pushPoint s f) (λ _. At e F g)
+    a-point s f ok =
+        t-point s f
+        (λ w a i. let new : PointOf (pointOf s f) = record { state = s; phase = f; ok = ok; is = refl } in
+        record {
+          sound = sound-points (more PointOf (e .points) (w .log .points) (pointOf s f) (a .sound .points) new i) (a .sound);
+          frame = a .frame;
+          good = a .good;
+          on = a .on;
+        })
+        (λ w a i. record { sound = a .sound; why = points-full (a .on) (is-full PointOf (e .points) (w .log .points) (a .sound .points) i) })
 
-    -- a loop's pass goes on with P, or ends with R
-    abbrev pub OnWith : {A B : Type 0} → (A → Type 0) → (B → Type 0) → Pass A B → Type 0
-    OnWith P R (again a) = P a
-    OnWith P R (over b) = R b
+    -- the point of the last state that passed
+    pub a-point-own : (f : Phase) → Keeps e (At e F g) (pushPoint g f) (λ _. At e F g)
+    a-point-own f = t-know (λ w. at-ok) (a-point g f)
 
-    -- a loop: at most n steps, and all n where it says 23
-    pub record Looped {A : Type 0} (n : ℕ) (Q : A → Type 0) (l : Log) (k : ℕ) (r : Ran A) : Type 0 where
-      pub sound : Sound (r .log)
-      pub steps : r .log .steps ≤ l .steps + n
-      pub made : r .log .steps ≡ l .steps + k
-      pub value : After Q (Stop (r .log .steps ≡ l .steps + n)) (r .outcome)
+    pub a-contact : {F' : ℕ → ℕ → Type 0} (a : BallState) (s : GroundSample) (b : BallState) → Ok a → SampleOf (e .course) s → Ok b
+        → ((j k : ℕ) → F j k → F' j (suc k) × (suc k ≤ e .most)) → Keeps e (At e F g) (pushContact a s b) (λ _. At e F' g)
+    a-contact a s b ka ks kb f =
+        let is = ContactOf (e .course) in
+        let new : is (contactOf a s b) = record { arrival = a; sample = s; departure = b; came = ka; left = kb; seen = ks; is = refl } in
+        t-contact a s b
+        (λ w t i. let d = one-more (w .log .contacts .records) (contactOf a s b) in let k = f _ _ (t .frame) in
+        record {
+          sound = sound-contacts (more is (e .contacts) (w .log .contacts) (contactOf a s b) (t .sound .contacts) new i) (rw d (k .1)) (t .sound);
+          frame = rw d (k .0);
+          good = t .good;
+          on = t .on;
+        })
+        (λ w t i. record { sound = t .sound; why = contacts-full (t .on) (is-full is (e .contacts) (w .log .contacts) (t .sound .contacts) i) })
 
-    pub record Loops {A : Type 0} (n : ℕ) (Q : A → Type 0) (m : M A) : Type 0 where
-      pub all : (l : Log) → Sound l → Looped n Q l (stepsOf o (m l)) (run o (m l))
+    pub a-mark : Keeps e (At e F g) mark (λ _. At e F g)
+    a-mark = t-mark (λ w a. a)
 
-    ends-loop : {A : Type 0} {Q : A → Type 0} {m : M A} (n : ℕ) → Keeps 0 Q m → Loops n Q m
-    ends-loop {A} {Q} {m} n h = record { all = λ l s. let i = h .all l s in go l (stepsOf o (m l)) (run o (m l) .outcome) (run o (m l) .log) (i .sound) (i .steps) (i .made) (i .value) }
-      where
-        go : (l : Log) (k : ℕ) (x : Outcome A) (l' : Log) → Sound l' → l' .steps ≡ l .steps + 0 → k ≡ 0 → After Q Early x → Looped n Q l k (ran x l')
-        go l k (goes a) l' s e i q = record { sound = s; steps = omega (arith, e); made = omega (arith, e, i); value = q }
-        go l k (stops j) l' s e i q = record { sound = s; steps = omega (arith, e); made = omega (arith, e, i); value = early _ j q }
+    pub a-truncate : (n : ℕ) → Keeps e (At e F g) (truncate n) (λ _. At e F g)
+    a-truncate n = t-truncate n (λ w a. let p = fewer PointOf (e .points) (w .log .points) n (a .sound .points) in
+        record { sound = sound-points p (a .sound); frame = a .frame; good = a .good; on = a .on })
 
-    loops-if : {A : Type 0} {n : ℕ} {Q : A → Type 0} {m m' : M A} (b : Bool) → Loops n Q m → Loops n Q m' → Loops n Q (if b then m else m')
-    loops-if true h h' = h
-    loops-if false h h' = h'
+    pub a-when : {m : M Unit} (b : Bool) → Keeps e (At e F g) m (λ _. At e F g) → Keeps e (At e F g) (when b m) (λ _. At e F g)
+    a-when b t = t-when b t (λ w a. a)
 
-    says-23 : {A : Type 0} (Q : A → Type 0) → Loops 0 Q (stopWith {A = A} 23)
-    unfolding run stepsOf
-    says-23 Q = record { all = λ l s. record { sound = s; steps = omega arith; made = omega arith; value = (omega arith, omega arith, λ i. omega arith) } }
+  module _ {G : ℕ → Type 0} {g : BallState} where
+    pub a-step : (n : ℕ) → Keeps e (At e (Within e (suc n) G) g) countStep (λ _. At e (Within e n G) g)
+    a-step n = t-step (λ w a. let h = a .sound in let d = a .frame .0 in let i = h .counted .0 in
+        record {
+          sound = record {
+            good = h .good;
+            contacts = h .contacts;
+            points = h .points;
+            few-impacts = h .few-impacts;
+            counted = (omega (arith, i), omega (arith, d));
+          };
+          frame = (omega (arith, d), a .frame .1);
+          good = a .good;
+          on = a .on;
+        })
 
-    loops-bind : {A B : Type 0} {n : ℕ} {Q : A → Type 0} {R : B → Type 0} {m : M A} {k : A → M B} → Keeps 1 Q m → ((x : A) → Q x → Loops n R (k x)) → Loops (suc n) R (m >>= k)
-    unfolding _>>=_ run stepsOf
-    loops-bind {A} {B} {n} {Q} {R} {m} {k} f g = record { all = λ l s. let h = f .all l s in let c : Ran A → Tree (Ran B) = λ r. onward k (r .outcome) (r .log) in rw (run-bind o (m l) c, steps-bind o (m l) c) (go l (stepsOf o (m l)) (run o (m l) .outcome) (run o (m l) .log) (h .sound) (h .steps) (h .made) (h .value)) }
-      where
-        on : (l l' : Log) → l' .steps ≡ l .steps + 1 → (d j : ℕ) → d ≡ 1 → (x : Outcome B) (k : Log) → Looped n R l' j (ran x k) → Looped (suc n) R l (d + j) (ran x k)
-        on l l' e d j u (goes b) k h = record { sound = h .sound; steps = (let i = h .steps in omega (arith, e, i)); made = (let i = h .made in omega (arith, e, i, u)); value = h .value }
-        on l l' e d j u (stops w) k h = record { sound = h .sound; steps = (let i = h .steps in omega (arith, e, i)); made = (let i = h .made in omega (arith, e, i, u)); value = (h .value .0, h .value .1, λ (v : w ≡ 23). let i = h .value .2 v in omega (arith, e, i)) }
+    pub a-left : Keeps e (At e (λ j. G) g) (stepsLeft (e .conditions)) (λ n. At e (Within e n G) g)
+    a-left = t-left (e .conditions) (λ w a. let i = a .sound .counted .1 in
+        record { sound = a .sound; frame = (omega (arith, i), a .frame); good = a .good; on = a .on })
 
-        go : (l : Log) (d : ℕ) (x : Outcome A) (l' : Log) → Sound l' → l' .steps ≡ l .steps + 1 → d ≡ 1 → After Q Early x → Looped (suc n) R l (d + stepsOf o (onward k x l')) (run o (onward k x l'))
-        go l d (goes x) l' s e u q = on l l' e d (stepsOf o (k x l')) u (run o (k x l') .outcome) (run o (k x l') .log) (g x q .all l' s)
-        go l d (stops j) l' s e u q = record { sound = s; steps = omega (arith, e); made = omega (arith, e, u); value = early _ j q }
-
-    pub k-loop : {A B : Type 0} {P : A → Type 0} {R : B → Type 0} (late : A → Bool) (atEnd : A → M B) (pass : A → M (Pass A B))
-        → ((a : A) → P a → Keeps 0 R (atEnd a)) → ((a : A) → P a → Keeps 1 (OnWith P R) (pass a)) → (n : ℕ) (a : A) → P a → Loops n R (loop n late atEnd pass a)
-    unfolding loop
-    k-loop {R = R} late atEnd pass e p zero a q = loops-if (late a) (ends-loop 0 (e a q)) (says-23 R)
-    k-loop {A} {B} {P} {R} late atEnd pass e p (suc n) a q = loops-if (late a) (ends-loop (suc n) (e a q)) (loops-bind (p a q) (next (λ b h. k-loop late atEnd pass e p n b h)))
-      where
-        next : ((b : A) → P b → Loops n R (loop n late atEnd pass b)) → (x : Pass A B) → OnWith P R x → Loops n R (elim x [ again b ↦ loop n late atEnd pass b | over r ↦ pure r ])
-        next g (again b) h = g b h
-        next g (over r) h = ends-loop n (k-pure r h)
-
-    -- with a limit on all steps, which are made where it says 23
-    module _ (limit : ℕ) where
-      pub record KeptTo {A : Type 0} (Q : A → Type 0) (l : Log) (k : ℕ) (r : Ran A) : Type 0 where
-        pub sound : Sound (r .log)
-        pub steps : r .log .steps ≤ limit
-        pub made : r .log .steps ≡ l .steps + k
-        pub value : After Q (Stop (r .log .steps ≡ limit)) (r .outcome)
-
-      pub record KeepsTo {A : Type 0} (Q : A → Type 0) (m : M A) : Type 0 where
-        pub all : (l : Log) → Sound l → l .steps ≤ limit → KeptTo Q l (stepsOf o (m l)) (run o (m l))
-
-      pub to : {A : Type 0} {Q : A → Type 0} {m : M A} → Keeps 0 Q m → KeepsTo Q m
-      to {A} {Q} {m} h = record { all = λ l s e. let i = h .all l s in go l e (stepsOf o (m l)) (run o (m l) .outcome) (run o (m l) .log) (i .sound) (i .steps) (i .made) (i .value) }
-        where
-          go : (l : Log) → l .steps ≤ limit → (k : ℕ) (x : Outcome A) (l' : Log) → Sound l' → l' .steps ≡ l .steps + 0 → k ≡ 0 → After Q Early x → KeptTo Q l k (ran x l')
-          go l e k (goes a) l' s i u q = record { sound = s; steps = omega (arith, e, i); made = omega (arith, i, u); value = q }
-          go l e k (stops j) l' s i u q = record { sound = s; steps = omega (arith, e, i); made = omega (arith, i, u); value = early _ j q }
-
-      pub to-bind : {A B : Type 0} {Q : A → Type 0} {R : B → Type 0} {m : M A} {k : A → M B} → KeepsTo Q m → ((x : A) → Q x → KeepsTo R (k x)) → KeepsTo R (m >>= k)
-      unfolding _>>=_ run stepsOf
-      to-bind {A} {B} {Q} {R} {m} {k} f g = record { all = λ l s e. let h = f .all l s e in let c : Ran A → Tree (Ran B) = λ r. onward k (r .outcome) (r .log) in rw (run-bind o (m l) c, steps-bind o (m l) c) (go l (stepsOf o (m l)) (run o (m l) .outcome) (run o (m l) .log) (h .sound) (h .steps) (h .made) (h .value)) }
-        where
-          go : (l : Log) (d : ℕ) (x : Outcome A) (l' : Log) → Sound l' → l' .steps ≤ limit → l' .steps ≡ l .steps + d → After Q (Stop (l' .steps ≡ limit)) x → KeptTo R l (d + stepsOf o (onward k x l')) (run o (onward k x l'))
-          go l d (goes x) l' s e i q = let h = g x q .all l' s e in record { sound = h .sound; steps = h .steps; made = (let u = h .made in omega (arith, i, u)); value = h .value }
-          go l d (stops n) l' s e i q = record { sound = s; steps = e; made = omega (arith, i); value = q }
-
-      pub to-if : {A : Type 0} {Q : A → Type 0} {m m' : M A} (b : Bool) → KeepsTo Q m → KeepsTo Q m' → KeepsTo Q (if b then m else m')
-      to-if true h h' = h
-      to-if false h h' = h'
-
-      pub to-left : {B : Type 0} {R : B → Type 0} (c : Conditions) (k : ℕ → M B) → c .«step_limit» ≡ limit → ((n : ℕ) → Loops n R (k n)) → KeepsTo R (stepsLeft c >>= k)
-      unfolding stepsLeft _>>=_ bind run stepsOf
-      to-left {B} {R} c k h f = record { all = λ l s e. let n = c .«step_limit» - l .steps in go l e (stepsOf o (k n l)) (run o (k n l) .outcome) (run o (k n l) .log) (f n .all l s) }
-        where
-          go : (l : Log) → l .steps ≤ limit → (d : ℕ) (x : Outcome B) (l' : Log) → Looped (c .«step_limit» - l .steps) R l d (ran x l') → KeptTo R l d (ran x l')
-          go l e d (goes b) l' j = record { sound = j .sound; steps = (let i = j .steps in omega (arith, e, i, h)); made = j .made; value = j .value }
-          go l e d (stops w) l' j = record { sound = j .sound; steps = (let i = j .steps in omega (arith, e, i, h)); made = j .made; value = (j .value .0, j .value .1, λ u. let v = j .value .2 u in omega (arith, e, v, h)) }
+    -- none is left
+    pub a-limit : (w : Past) → At e (Within e 0 G) g w → Stops e 23 w
+    a-limit w a = record { sound = a .sound; why = limit-reached (a .on) (let d = a .frame .0 in omega (arith, d)) }

@@ -1,5 +1,6 @@
 pub mod Demand
 pub mod Keeps
+pub mod Parts
 pub mod Samples
 pub mod Finite
 pub mod Promises

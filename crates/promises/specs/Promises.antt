@@ -22,11 +22,12 @@ use Rattle.course.specs.Sheet.{courseOf}
 use Rattle.shot.specs.declared.Shot.{Shot}
 use Rattle.state.specs.declared.Termination.{Termination}
 use Rattle.state.specs.declared.Termination.the-variants.{Nothing, Rest, MaxTime, MaxImpacts}
-use Rattle.ground.specs.Tests.{refusalOf}
+use Rattle.groundNone.specs.Tests.{refusalOf}
 use Rattle.ground.specs.Passed.{refused-by, settle-sheet}
 use Rattle.ground.specs.Settle.{Result, reportOf, runOf, settleOf}
 use Rattle.promises.specs.Keeps.{PointOf, ContactOf}
-use Rattle.promises.specs.Finite.{Answer, Finite, StateFinite, state-finite, point-finite, contact-finite, finite-shown, settle-leaves}
+use Rattle.promises.specs.Parts.{Answer}
+use Rattle.promises.specs.Finite.{Finite, StateFinite, state-finite, point-finite, contact-finite, finite-shown, settle-leaves}
 
 -- finite, and of magnitude at most 1,000,000
 abbrev pub About : Float → Type 0

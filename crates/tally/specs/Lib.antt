@@ -3,3 +3,4 @@ pub mod Language
 pub mod Contracts
 pub mod Lists
 pub mod Words
+pub mod Triple

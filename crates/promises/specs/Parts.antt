@@ -1,0 +1,266 @@
+-- Lemmas. Each part of a settle, in the logic of Triple: what Keeps says of the words, said of what is made of them. Assumes nothing.
+use Prim.Native.Nat.{ℕ, zero, suc, _+_, _-_, _≤_}
+use native.Mathlib.Omega.{arith}
+use mathlib.Core.Path.{_≡_, refl, ap, _∙_, sym}
+use mathlib.Core.Bool.{Bool, true, false, not}
+use mathlib.Core.Option.{Option, none, some}
+use lib.Dec.{eqb}
+use lib.Ieee.{Float, le, eq}
+use Rattle.number.specs.Ops.{_⊕_, dec}
+use Rattle.state.specs.declared.BallState.{BallState}
+use Rattle.surface.specs.declared.GroundSample.{GroundSample}
+use Rattle.aero.specs.Aero.{fromSpinVector}
+use Rattle.aero.specs.declared.AeroParams.{AeroParams}
+use Rattle.state.specs.declared.Phase.{Phase}
+use Rattle.state.specs.declared.Phase.the-variants.{Hop as InHop}
+use Rattle.vector.specs.declared.DVec3.{DVec3}
+use Rattle.look.specs.Tree.{Oracle}
+use Rattle.search.specs.Search.{rootFrom, findRoot, afterStep, narrowed, inBracket}
+use Rattle.search.specs.declared.Bracket.{Bracket}
+use Rattle.search.specs.declared.Search.{Search}
+use Rattle.search.specs.declared.RootStep.{RootStep}
+use Rattle.search.specs.declared.RootStep.the-variants.{Next, Found}
+use Rattle.tally.specs.Language.{M, inM, look, pushContact}
+use Rattle.tally.specs.declared.Conditions.{Conditions}
+use Rattle.arrival.specs.Arrival.{clearance, clearanceAt, arcOf, placed, subStep, crossingFrom, firstCrossing, endValue, crossingTime, hopArrival}
+use Rattle.arrival.specs.declared.Arc.{Arc}
+use Rattle.hop.specs.Hop.{stepArc, stepEnd, hopNext, hopStep, hopFrom, hop}
+use Rattle.hop.specs.declared.Flight.{Flight}
+use Rattle.hop.specs.declared.Way.{Way}
+use Rattle.hop.specs.declared.Way.the-variants.{Arrived, Late}
+use Rattle.roll.specs.Roll.{groundStep, heldOf, stepOn}
+use Rattle.roll.specs.declared.Roll.{Roll}
+use Rattle.roll.specs.declared.Ending.{Ending}
+use Rattle.state.specs.declared.Termination.{Termination}
+use Rattle.state.specs.declared.Termination.the-variants.{Nothing, Rest, MaxTime, MaxImpacts}
+use Rattle.ground_phase.specs.GroundPhase.{timeUp, groundFrom, ground}
+use Rattle.strike.specs.Strike.{strike, rebounds, diesOut, fly, dropped, drop}
+use Rattle.strike.specs.declared.Struck.{Struck}
+use Rattle.strike.specs.declared.Flown.{Flown}
+use Rattle.strike.specs.declared.Flown.the-variants.{Hop, Ground}
+use Rattle.train.specs.Train.{lastImpact, toGround, trainFrom, train}
+use Rattle.tally.specs.Triple.{Past, After, OnWith, Triple, t-before, t-after, t-bind, t-then, t-fact, t-know, t-of, t-if, t-pure, t-same, t-loop}
+use Rattle.promises.specs.Keeps.{SampleOf, Ok, struckAt, impact, hop-step, arrival, drop as dropping, ground-step}
+use Rattle.promises.specs.Keeps.{Setting, Keeps, At, Within, at-ok, at-frame}
+use Rattle.promises.specs.Keeps.{a-look, a-test, a-point-own, a-contact, a-mark, a-truncate, a-when, a-step, a-left, a-limit}
+
+-- the numbers that come with a termination: 0 where the run finished; 20 to 23, with none, where it stopped
+abbrev pub Answer : Termination → ℕ → Type 0
+Answer Nothing n = (20 ≤ n) × (n ≤ 23)
+Answer Rest n = n ≡ 0
+Answer MaxTime n = n ≡ 0
+Answer MaxImpacts n = n ≡ 0
+
+-- P of the value, if there is one
+abbrev pub IfSome : {A : Type 0} → (A → Type 0) → Option A → Type 0
+IfSome P none = Unit
+IfSome P (some a) = P a
+
+-- the arrival, tau into the arc, stands on the course
+pub record Landed (o : Oracle) (arc : Arc) (t : Float) (spin : DVec3) (s : BallState) : Type 0 where
+  pub tau : Float
+  pub is : s ≡ placed (arcOf arc tau) (t ⊕ tau) (o (arcOf arc tau .pos .x) (arcOf arc tau .pos .z) .height) spin
+
+-- ---- where a hop meets the ground: looks alone. What every look keeps, this keeps
+
+module _ {o : Oracle} {P : Past → Type 0} {R : ℕ → Past → Type 0} (look-keeps : (x z : Float) → Triple o P (look x z) (λ s w. P w × (s ≡ o x z)) R) where
+  abbrev Looks : {A : Type 0} → M A → Type 0
+  Looks m = Triple o P m (λ _. P) R
+
+  pub l-clearance : (p : DVec3) → Looks (clearance p)
+  unfolding clearance
+  l-clearance p = t-then (look-keeps _ _) (λ s _. t-same)
+
+  l-clearanceAt : (arc : Arc) (tau : Float) → Looks (clearanceAt arc tau)
+  unfolding clearanceAt
+  l-clearanceAt arc tau = l-clearance _
+
+  module _ (f : Float → M Float) (kf : (x : Float) → Looks (f x)) where
+    l-subStep : (len fEnd : Float) (i : ℕ) (b : Bracket) → Looks (subStep f len fEnd i b)
+    unfolding subStep
+    l-subStep len fEnd i b = t-if (eqb i 8) (λ _. t-same) (λ _. t-bind (kf _) (λ x. t-same))
+
+    l-crossingFrom : (len fEnd : Float) (n i : ℕ) (b : Bracket) → Looks (crossingFrom f len fEnd n i b)
+    unfolding crossingFrom
+    l-crossingFrom len fEnd zero i b = t-same
+    l-crossingFrom len fEnd (suc n) i b =
+        t-bind (l-subStep len fEnd i b) (λ x. t-if (le (x .«f_hi») (dec 0 1)) (λ _. t-same) (λ _. l-crossingFrom len fEnd n (i + 1) x))
+
+    l-root : (n : ℕ) (s : Search) → Looks (rootFrom inM f n s)
+    unfolding rootFrom
+    l-root zero s = t-same
+    l-root (suc n) s = t-bind (kf _) (λ x. next (l-root n) (narrowed s (inBracket s) x))
+      where
+        next : ((t : Search) → Looks (rootFrom inM f n t)) → (r : RootStep) → Looks (afterStep inM (rootFrom inM f n) r)
+        next h (Next t) = h t
+        next h (Found x) = t-same
+
+  l-endValue : (arc : Arc) (b : Bracket) → Looks (endValue arc b)
+  unfolding endValue
+  l-endValue arc b = t-if (eq (b .hi) (arc .h)) (λ _. t-bind (l-clearanceAt arc _) (λ x. t-same)) (λ _. t-same)
+
+  l-crossingTime : (arc : Arc) (b : Bracket) → Looks (crossingTime arc b)
+  unfolding crossingTime findRoot
+  l-crossingTime arc b = t-bind (l-endValue arc b) (λ x. t-then (look-keeps _ _) (λ s _. l-root _ (l-clearanceAt arc) _ _))
+
+  pub l-hopArrival : (arc : Arc) (t end : Float) (spin : DVec3) → Triple o P (hopArrival arc t end spin) (λ a w. P w × IfSome (Landed o arc t spin) a) R
+  unfolding hopArrival firstCrossing
+  l-hopArrival arc t end spin = t-bind (l-clearanceAt arc _) (λ x. t-bind (l-crossingFrom _ (l-clearanceAt arc) _ _ 8 1 _) (elim [
+    | none ↦ t-pure (λ w a. (a, tt))
+    | some b ↦ t-bind (l-crossingTime arc b) (λ tau. t-then (look-keeps _ _) (λ s h. t-pure (λ w a. (a, record { tau = tau; is = rw h }))))
+  ]))
+
+module _ (e : Setting) where
+  abbrev c : Conditions
+  c = e .conditions
+
+  -- ---- a hop
+
+  abbrev pub stateOf : Way → BallState
+  stateOf (Arrived b) = b
+  stateOf (Late b) = b
+
+  -- the arc of the step from s
+  abbrev arcFrom : BallState → Arc
+  arcFrom s = stepArc c (fromSpinVector (s .spin)) s
+
+  -- the sample under s, and the state after its impact there
+  abbrev StruckBy : BallState → Struck → Type 0
+  StruckBy s hit = hit ≡ struckAt (e .course) c s
+
+  sampled-at : (s : BallState) (hit : Struck) → StruckBy s hit → SampleOf (e .course) (hit .«at»)
+  sampled-at s hit h = record { x = s .pos .x; z = s .pos .z; is = ap (λ (x : Struck). x .«at») h }
+
+  module _ (G : ℕ → Type 0) where
+    -- G of the number of contacts
+    abbrev pub Only : BallState → Past → Type 0
+    Only g = At e (λ _. G) g
+
+    -- with n steps left: the flight's state is the last that passed, with the spin that the hop began with
+    abbrev Flying : DVec3 → ℕ → Flight → Past → Type 0
+    Flying spin n f w = At e (Within e n G) (f .state) w × (f .state .spin ≡ spin)
+
+    abbrev Flew : Way → Past → Type 0
+    Flew way = Only (stateOf way)
+
+    f-hopNext : (n : ℕ) (f : Flight) (b : BallState) → b ≡ stepEnd (arcFrom (f .state)) (f .state)
+        → (a : Option BallState) → IfSome (Landed (e .course) (arcFrom (f .state)) (f .state .time) (f .state .spin)) a
+        → Keeps e (At e (Within e n G) b) (hopNext f b a) (OnWith (Flying (f .state .spin) n) Flew)
+    unfolding hopNext stepEnd
+    f-hopNext n f b d (some s) l = t-then (a-test s (arrival (f .state) (l .tau) d (l .is))) (λ x _. t-pure (λ w a. at-frame (λ j k h. h .1) a))
+    f-hopNext n f b d none l = t-bind (a-when _ (a-point-own _)) (λ x. t-pure (λ w a. (a, ap (λ (s : BallState). s .spin) d)))
+
+    f-hopStep : (spin : DVec3) (n : ℕ) (f : Flight) → Keeps e (Flying spin (suc n) f) (hopStep c (fromSpinVector spin) f) (OnWith (Flying spin n) Flew)
+    unfolding hopStep
+    f-hopStep spin n f = t-fact (λ h. rw (← h) (t-bind (a-step n) (λ _. t-then (a-test _ (hop-step refl)) (λ b d.
+        t-bind (l-clearance a-look _) (λ end. t-then (l-hopArrival a-look _ _ _ _) (λ a l. f-hopNext n f b d a l))))))
+
+    f-hop : (start : BallState) → Keeps e (Only start) (hop c start) Flew
+    unfolding hop hopFrom
+    f-hop start = t-bind a-left (λ n. t-before (λ w a. (a, refl)) (t-loop _ _ _ (Flying (start .spin)) Flew
+        (λ n f. t-pure (λ w a. at-frame (λ j k h. h .1) (a .0))) (λ f w a. a-limit w (a .0)) (f-hopStep (start .spin)) n _))
+
+    -- ---- the ground
+
+    abbrev Rolling : ℕ → Roll → Past → Type 0
+    Rolling n r w = At e (Within e n G) (r .state) w × SampleOf (e .course) (r .«at»)
+
+    -- the run is over, with its last state and how
+    abbrev pub Over : Ending → Past → Type 0
+    Over d w = Only (d .state) w × Answer (d .how) 0
+
+    f-timeUp : (F : ℕ → ℕ → Type 0) → ((j k : ℕ) → F j k → G k) → (s : BallState) (phase : Phase) → Keeps e (At e F s) (timeUp s phase) Over
+    unfolding timeUp
+    f-timeUp F f s phase = t-bind (a-point-own phase) (λ x. t-pure (λ w a. (at-frame f a, refl)))
+
+    f-groundStep : (n : ℕ) (r : Roll) → Keeps e (Rolling (suc n) r) (groundStep c r) (OnWith (Rolling n) Over)
+    unfolding groundStep
+    f-groundStep n r = t-fact (λ seen. t-bind (a-step n) (λ _. t-bind (a-when _ (a-point-own _)) (λ _. t-then (a-look _ _) (λ under h.
+        t-then (a-test _ (ground-step r refl seen (rw h))) (λ b _.
+        t-if (not (heldOf (stepOn c r) under)) (λ _. t-pure (λ w a. (a, record { x = _; z = _; is = h })))
+        (λ _. t-bind (a-point-own _) (λ _. t-pure (λ w a. (at-frame (λ j k h. h .1) a, refl)))))))))
+
+    f-ground : (state : BallState) (s : GroundSample) → SampleOf (e .course) s → Keeps e (Only state) (ground c state s) Over
+    unfolding ground groundFrom
+    f-ground state s seen = t-bind a-left (λ n. t-before (λ w a. (a, seen)) (t-loop _ _ _ Rolling Over
+        (λ n r. t-before (λ w a. a .0) (f-timeUp (Within e n G) (λ j k h. h .1) (r .state) _)) (λ r w a. a-limit w (a .0)) f-groundStep n _))
+
+    -- ---- an impact
+
+    abbrev StruckOf : BallState → Struck → Past → Type 0
+    StruckOf s hit w = Only (hit .out) w × StruckBy s hit
+
+    f-strike : (s : BallState) → Keeps e (Only s) (strike c s) (StruckOf s)
+    unfolding strike
+    f-strike s = t-then (a-look _ _) (λ g h. t-then (a-test _ (impact (rw h))) (λ b d. t-pure (λ w a. (a, rw (d, h)))))
+
+    abbrev Flown-so : Flown → Past → Type 0
+    Flown-so (Hop way) w = Flew way w
+    Flown-so Ground w = Only (w .log .good) w
+
+    own : (g : BallState) (w : Past) → Only g w → Only (w .log .good) w
+    own g w a = record { sound = a .sound; frame = a .frame; good = refl; on = a .on }
+
+    f-fly : (hops : Bool) (state : BallState) (hit : Struck) → Keeps e (Only (hit .out)) (fly c hops state hit) Flown-so
+    unfolding fly
+    f-fly hops state hit = t-if (not hops) (λ _. t-pure (own _)) (λ _. t-bind a-mark (λ m. t-bind (a-point-own _) (λ _. t-bind (f-hop _) (elim [
+      | Late b ↦ t-pure (λ w a. a)
+      | Arrived b ↦ t-if (diesOut c state hit b) (λ _. t-pure (λ w a. a)) (λ _. t-bind (a-truncate m) (λ _. t-pure (own b)))
+    ]))))
+
+    -- one contact more, of s
+    abbrev More : (ℕ → Type 0) → Type 0
+    More F = (k : ℕ) → G k → F (suc k) × (suc k ≤ e .most)
+
+    module _ {F : ℕ → Type 0} (f : More F) (s : BallState) (ok : Ok s) (hit : Struck) (h : StruckBy s hit) {g : BallState} where
+      f-contact : (b : BallState) → Ok b → Keeps e (Only g) (pushContact s (hit .«at») b) (λ _. At e (λ _. F) g)
+      f-contact b kb = a-contact s (hit .«at») b ok (sampled-at s hit h) kb (λ j k t. f k t)
+
+    module _ {F : ℕ → Type 0} (f : More F) (s : BallState) (ok : Ok s) (hit : Struck) (h : StruckBy s hit) {g : BallState} where
+      f-drop : Keeps e (Only g) (drop c s hit) (At e (λ _. F))
+      unfolding drop
+      f-drop = t-then (a-test _ (dropping s (ap (dropped c) h))) (λ b _. t-bind (t-know (λ w. at-ok) (f-contact f s ok hit h b)) (λ _. t-pure (λ w a. a)))
+
+  -- ---- the train
+
+  abbrev pub Ended : Ending → Past → Type 0
+  Ended = Over (λ _. Unit {0})
+
+  -- n contacts more may be pushed
+  abbrev Room : ℕ → ℕ → Type 0
+  Room n k = n + k ≤ e .most
+
+  room : (n k : ℕ) → Room (suc n) k → Room n (suc k) × (suc k ≤ e .most)
+  room n k h = (omega (arith, h), omega (arith, h))
+
+  last : (n k : ℕ) → Room (suc n) k → Unit {0} × (suc k ≤ e .most)
+  last n k h = (tt, omega (arith, h))
+
+  module _ (s : BallState) (ok : Ok s) (hit : Struck) (h : StruckBy s hit) (n : ℕ) where
+    f-toGround : {g : BallState} → Keeps e (Only (Room (suc n)) g) (toGround c s hit) Ended
+    unfolding toGround
+    f-toGround = t-bind (f-drop (Room (suc n)) (last n) s ok hit h) (λ b. f-ground (λ _. Unit {0}) b (hit .«at») (sampled-at s hit h))
+
+    f-lastImpact : Keeps e (Only (Room (suc n)) (hit .out)) (lastImpact s hit) Ended
+    unfolding lastImpact
+    f-lastImpact = t-bind (t-know (λ w. at-ok) (f-contact (Room (suc n)) (last n) s ok hit h _)) (λ _. t-bind (a-point-own _) (λ _. t-pure (λ w a. (a, refl))))
+
+  f-trainFrom : (n : ℕ) (s : BallState) → Keeps e (Only (Room (suc n)) s) (trainFrom c n s) Ended
+  unfolding trainFrom
+  f-trainFrom zero s = t-know (λ w. at-ok) (λ ok. t-then (f-strike (Room 1) s) (λ hit h.
+      t-if (not (rebounds c hit)) (λ _. f-toGround s ok hit h 0) (λ _. f-lastImpact s ok hit h 0)))
+  f-trainFrom (suc n) s = t-know (λ w. at-ok) (λ ok. t-then (f-strike (Room (suc (suc n))) s) (λ hit h.
+      t-know (λ w. at-ok) (λ kb. t-bind (f-fly (Room (suc (suc n))) _ s hit) (elim [
+        | Ground ↦ t-of (λ w. w .log .good) (λ g. f-toGround s ok hit h (suc n))
+        | Hop way ↦ t-bind (f-contact (Room (suc (suc n))) (room (suc n)) s ok hit h _ kb) (λ _. after n way (f-trainFrom n))
+      ]))))
+    where
+      after : (n : ℕ) (way : Way) → ((s : BallState) → Keeps e (Only (Room (suc n)) s) (trainFrom c n s) Ended)
+          → Keeps e (Only (Room (suc n)) (stateOf way)) (elim way [ Arrived b ↦ trainFrom c n b | Late b ↦ timeUp b InHop ]) Ended
+      after n (Arrived b) f = f b
+      after n (Late b) f = f-timeUp (λ _. Unit {0}) (λ j. Room (suc n)) (λ j k h. tt) b _
+
+  -- from the first state, with n contacts to come by max_impacts
+  pub train-keeps : (landing : BallState) → Keeps e (Only (Room (suc (c .physics .«max_impacts» - 1))) landing) (train c landing) Ended
+  unfolding train
+  train-keeps landing = f-trainFrom _ landing
