@@ -1,7 +1,7 @@
--- What 01 promises of every settle, on one page: each is one statement on what a call gives, proved from the lemmas of Finite.
-use Prim.Native.Nat.{ℕ, _≤_}
+-- Statements. What 01 promises of every settle, on one page: each is one statement on what a call gives, proved from the lemmas of Finite.
+use Prim.Native.Nat.{ℕ, suc, _/_, _≤_, _<_}
 use native.Mathlib.Omega.{arith}
-use mathlib.Core.Path.{_≡_, refl}
+use mathlib.Core.Path.{_≡_, refl, _∙_}
 use mathlib.Core.Bool.{Bool, true, false}
 use mathlib.Core.List.{List}
 use lib.Dec.{T, eqb}
@@ -24,8 +24,9 @@ use Rattle.state.specs.declared.Termination.{Termination}
 use Rattle.state.specs.declared.Termination.the-variants.{Nothing, Rest, MaxTime, MaxImpacts}
 use Rattle.groundNone.specs.Tests.{refusalOf}
 use Rattle.ground.specs.Passed.{refused-by, settle-sheet}
-use Rattle.ground.specs.Settle.{Result, reportOf, runOf, settleOf}
-use Rattle.promises.specs.Keeps.{PointOf, ContactOf}
+use Rattle.ground.specs.Settle.{Result, reportOf, conditionsOf, runOf, settleOf}
+use Rattle.tally.specs.Triple.{misses}
+use Rattle.promises.specs.Keeps.{PointOf, ContactOf, Failed}
 use Rattle.promises.specs.Parts.{Answer}
 use Rattle.promises.specs.Finite.{Finite, StateFinite, state-finite, point-finite, contact-finite, finite-shown, settle-leaves}
 
@@ -54,6 +55,34 @@ module _ (sheet : List ℕ) (shot : Shot) (cs ps : List Float) where
   pub refused-answer : (number ≡ 0 → ⊥) → (1 ≤ got .settled .answer) × (got .settled .answer ≤ 8) × (got .settled .termination ≡ Nothing)
   unfolding settleOf
   refused-answer h = let b = refused-by sheet shot (length cs) (length ps) in rw (ne-eqb number 0 h) (omega (arith, h), b, refl)
+
+  -- ---- when each number comes
+
+  -- an answer above 8 comes from an accepted call
+  stopped : (n : ℕ) → 8 < n → got .settled .answer ≡ n → number ≡ 0
+  stopped n l h = go (eqb number 0) refl
+    where
+      go : (b : Bool) → eqb number 0 ≡ b → number ≡ 0
+      go true e = eqb-true number 0 e
+      go false e = absurd (let i = refused-answer (eqb-false number 0 e) .1 in omega (arith, l, h, i))
+
+  -- 20, 21: "a push finds contacts, points full". 20 comes only with every lent contact record pushed, 21 only with every lent point record
+  pub only-20 : got .settled .answer ≡ 20 → got .settled .contacts ≡ length cs / 20
+  only-20 h = let l = settle-leaves sheet shot cs ps (stopped 20 (omega arith) h) in l .contacts-counted ∙ l .contacts-full h
+
+  pub only-21 : got .settled .answer ≡ 21 → got .settled .points ≡ length ps / 11
+  only-21 h = let l = settle-leaves sheet shot cs ps (stopped 21 (omega arith) h) in l .points-counted ∙ l .points-full h
+
+  -- 22: "a test above failed". 22 comes only where a test failed: of a spot before its look, the one that failed in the run; or, no spot having
+  -- failed, of a state that followed the final state of the result by an impact, a hop step, an arrival, a drop or a ground step
+  pub only-22 : got .settled .answer ≡ 22
+      → Failed (courseOf sheet) (conditionsOf shot)
+      (misses (courseOf sheet) (runOf shot (length cs) (length ps))) (got .settled .rest)
+  only-22 h = settle-leaves sheet shot cs ps (stopped 22 (omega arith) h) .failed h
+
+  -- 23: "step_limit steps taken and one more due". 23 comes only with step_limit steps made
+  pub only-23 : got .settled .answer ≡ 23 → got .settled .steps ≡ limit
+  only-23 h = settle-leaves sheet shot cs ps (stopped 23 (omega arith) h) .limit-reached h
 
   -- 01: "Result of a settle: the number": 0 comes from accepted calls alone
   pub answered : got .settled .answer ≡ 0 → number ≡ 0
@@ -105,7 +134,9 @@ module _ (sheet : List ℕ) (shot : Shot) (cs ps : List Float) where
   rect-about = go (eqb number 0) refl
     where
       go : (b : Bool) → eqb number 0 ≡ b → Edges About (got .settled .rect)
-      go true e = let t = runOf shot (length cs) (length ps) in rw e (about (exec (courseOf sheet) noRect t .rect) (edges-ok (courseOf sheet) t))
+      go true e =
+          let t = runOf shot (length cs) (length ps) in
+          rw e (about (exec (courseOf sheet) noRect t .rect) (edges-ok (courseOf sheet) t))
       go false e = rw e (about noRect no-rect-ok)
 
   -- 01: "its count must equal the steps made"
