@@ -2,3 +2,4 @@ pub mod Ops
 pub mod Number
 pub mod Order
 pub mod Rounding
+pub mod Ranges

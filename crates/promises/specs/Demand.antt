@@ -20,7 +20,7 @@ use Rattle.tally.specs.Language.{if_then_else_}
 use Rattle.shot.specs.Tests.{inputTest}
 use Rattle.shot.specs.Passed.{input-number}
 use Rattle.shot.specs.declared.Shot.{Shot}
-use Rattle.groundNone.specs.Tests.{wholes, refusalOf}
+use Rattle.ground.specs.Tests.{wholes, refusalOf}
 use Rattle.ground.specs.Settle.{reportOf, runOf, settleOf, looksOf}
 
 module _ (shot : Shot) where

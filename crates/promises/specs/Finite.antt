@@ -30,7 +30,7 @@ use Rattle.tally.specs.declared.Conditions.{Conditions}
 use Rattle.tally.specs.Language.{Ran, Outcome, goes, stops, phaseNumber}
 use Rattle.roll.specs.declared.Ending.{Ending}
 use Rattle.shot.specs.Tests.{vecAbout, landingOk}
-use Rattle.groundNone.specs.Tests.{refusalOf}
+use Rattle.ground.specs.Tests.{refusalOf}
 use Rattle.ground.specs.Passed.{settle-passes}
 use Rattle.ground.specs.Settle.{Result, answerBy, howBy, restBy, reportOf, conditionsOf, firstLog, runOf, settleOf}
 use Rattle.promises.specs.Samples.{Sampled, sampled, number-finite}

@@ -4,3 +4,5 @@ pub mod Parts
 pub mod Samples
 pub mod Finite
 pub mod Promises
+pub mod Calls
+pub mod Program

@@ -2,6 +2,7 @@
 use Prim.Native.Nat.{ℕ, suc, _/_, _≤_, _<_}
 use native.Mathlib.Omega.{arith}
 use mathlib.Core.Path.{_≡_, refl, _∙_}
+use mathlib.Core.Logic.{_⊎_, inl, inr}
 use mathlib.Core.Bool.{Bool, true, false}
 use mathlib.Core.List.{List}
 use lib.Dec.{T, eqb}
@@ -20,11 +21,18 @@ use Rattle.look.specs.Within.{Edges, coord-fin, edges-ok, no-rect-ok}
 use Rattle.look.specs.declared.Rect.{Rect}
 use Rattle.course.specs.Sheet.{courseOf}
 use Rattle.shot.specs.declared.Shot.{Shot}
+use Rattle.shot.specs.declared.GroundPhysics.{GroundPhysics}
 use Rattle.state.specs.declared.Termination.{Termination}
 use Rattle.state.specs.declared.Termination.the-variants.{Nothing, Rest, MaxTime, MaxImpacts}
-use Rattle.groundNone.specs.Tests.{refusalOf}
+use Rattle.shot.specs.Tests.{physicsOk, inputTest}
+use Rattle.ground.specs.Tests.{refusalOf}
+use Rattle.roll.specs.Roll.{stepOn, putDown, groundStep}
+use Rattle.ground_phase.specs.GroundPhase.{groundFrom, ground}
+use Rattle.strike.specs.Strike.{strike, rebounds, dropped, drop}
+use Rattle.train.specs.Train.{toGround, trainFrom, train}
+use Rattle.tally.specs.Language.{stepsLeft}
 use Rattle.ground.specs.Passed.{refused-by, settle-sheet}
-use Rattle.ground.specs.Settle.{Result, reportOf, conditionsOf, runOf, settleOf}
+use Rattle.ground.specs.Settle.{Result, noState, reportOf, conditionsOf, runOf, settleOf}
 use Rattle.tally.specs.Triple.{misses}
 use Rattle.promises.specs.Keeps.{PointOf, ContactOf, Failed}
 use Rattle.promises.specs.Parts.{Answer}
@@ -56,6 +64,20 @@ module _ (sheet : List ℕ) (shot : Shot) (cs ps : List Float) where
   unfolding settleOf
   refused-answer h = let b = refused-by sheet shot (length cs) (length ps) in rw (ne-eqb number 0 h) (omega (arith, h), b, refl)
 
+  -- of every call: 0 to 8, or 20 to 23
+  pub answers : (got .settled .answer ≤ 8) ⊎ ((20 ≤ got .settled .answer) × (got .settled .answer ≤ 23))
+  answers = go (eqb number 0) refl
+    where
+      range : (t : Termination) (n : ℕ) → Answer t n → (n ≤ 8) ⊎ ((20 ≤ n) × (n ≤ 23))
+      range Nothing n a = inr a
+      range Rest n a = inl (omega (arith, a))
+      range MaxTime n a = inl (omega (arith, a))
+      range MaxImpacts n a = inl (omega (arith, a))
+
+      go : (b : Bool) → eqb number 0 ≡ b → (got .settled .answer ≤ 8) ⊎ ((20 ≤ got .settled .answer) × (got .settled .answer ≤ 23))
+      go true e = range (got .settled .termination) (got .settled .answer) (accepted-answer (eqb-true number 0 e))
+      go false e = inl (refused-answer (eqb-false number 0 e) .1)
+
   -- ---- when each number comes
 
   -- an answer above 8 comes from an accepted call
@@ -83,6 +105,20 @@ module _ (sheet : List ℕ) (shot : Shot) (cs ps : List Float) where
   -- 23: "step_limit steps taken and one more due". 23 comes only with step_limit steps made
   pub only-23 : got .settled .answer ≡ 23 → got .settled .steps ≡ limit
   only-23 h = settle-leaves sheet shot cs ps (stopped 23 (omega arith) h) .limit-reached h
+
+  -- 01: "zero counts, all-zero (+0) final state and rectangle; lists untouched"
+  pub record Refused : Type 0 where
+    pub answer : got .settled .answer ≡ number
+    pub counts : (got .settled .contacts ≡ 0) × (got .settled .points ≡ 0) × (got .settled .steps ≡ 0)
+    pub state : got .settled .rest ≡ noState
+    pub rect : got .settled .rect ≡ noRect
+    pub lists : (got .contacts ≡ cs) × (got .points ≡ ps)
+
+  pub refused-result : (number ≡ 0 → ⊥) → Refused
+  unfolding settleOf
+  refused-result h =
+      let e = ne-eqb number 0 h in
+      record { answer = rw e; counts = (rw e, rw e, rw e); state = rw e; rect = rw e; lists = (rw e, rw e) }
 
   -- 01: "Result of a settle: the number": 0 comes from accepted calls alone
   pub answered : got .settled .answer ≡ 0 → number ≡ 0
@@ -142,3 +178,21 @@ module _ (sheet : List ℕ) (shot : Shot) (cs ps : List Float) where
   -- 01: "its count must equal the steps made"
   pub steps-made : number ≡ 0 → got .settled .steps ≡ stepsOf (courseOf sheet) (runOf shot (length cs) (length ps))
   steps-made h = settle-leaves sheet shot cs ps h .made
+
+-- the settings with n for max_impacts
+abbrev pub allowing : ℕ → GroundPhysics → GroundPhysics
+allowing n p = record {
+  dt = p .dt;
+  «stop_speed» = p .«stop_speed»;
+  «roll_threshold» = p .«roll_threshold»;
+  «min_hop_height» = p .«min_hop_height»;
+  «max_impacts» = n;
+  «max_time» = p .«max_time»;
+}
+
+-- 01: "max_impacts 0 acts as 1": of every call, refused ones too
+pub zero-as-one : (sheet : List ℕ) (shot : Shot) (cs ps : List Float)
+    → settleOf sheet (allowing 0 p) limit ball density landing cs ps ≡ settleOf sheet (allowing 1 p) limit ball density landing cs ps
+unfolding settleOf refusalOf inputTest physicsOk runOf conditionsOf train trainFrom strike rebounds
+    toGround drop dropped ground groundFrom groundStep stepOn putDown stepsLeft
+zero-as-one sheet shot cs ps = refl
