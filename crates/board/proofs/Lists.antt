@@ -10,7 +10,12 @@ use lib.Dec.{eqb}
 use lib.ListN.{length, take, drop, getD, set, length-take, length-drop, drop-of-length-le, List·getD-map}
 use lib.Seq.{drop-cons, getD-take, length-take-le, take-suc-set, drop-set-lt, take-set-lt, drop-append-le, take-at, append-snoc, take-take, take-all, set-split}
 use Rattle.board.specs.declared.Entry.{Entry}
-use Rattle.board.specs.Board.{insert, holds, placeIn, insertedAt, Shows, shots}
+use Rattle.board.specs.declared.Board.{Board}
+use Rattle.board.specs.Rules.{isBefore, insert, holds, answerOf}
+use Rattle.board.specs.Board.{shots, listing, withListing, withEntry, answered, enterOf}
+use Rattle.board.specs.Sorting.{insert-length}
+use Rattle.board.specs.Tests.{Tested, far, repeated, full, taken, tested}
+use Rattle.board.specs.Inner.{placeIn, insertedAt, Shows}
 
 -- the first n entries from i on, taken apart
 pub ahead : (l : List Entry) (n i : ℕ) (d : Entry) → i < n → n ≤ length l → drop i (take n l) ≡ getD l i d ∷ drop (i + 1) (take n l)
@@ -65,7 +70,9 @@ unfolding insert placeIn
 inserts p e [] = refl
 inserts p e (f ∷ l) = go (p f) (inserts p e l)
   where
-    go : (b : Bool) → insert p e l ≡ take (placeIn p l) l ++ (e ∷ drop (placeIn p l) l) → elim b [ true ↦ e ∷ f ∷ l | false ↦ f ∷ insert p e l ] ≡ take (elim b [ true ↦ 0 | false ↦ suc (placeIn p l) ]) (f ∷ l) ++ (e ∷ drop (elim b [ true ↦ 0 | false ↦ suc (placeIn p l) ]) (f ∷ l))
+    go : (b : Bool) → insert p e l ≡ take (placeIn p l) l ++ (e ∷ drop (placeIn p l) l)
+        → elim b [ true ↦ e ∷ f ∷ l | false ↦ f ∷ insert p e l ] ≡ take (elim b [ true ↦ 0 | false ↦ suc (placeIn p l) ]) (f ∷ l) ++
+        (e ∷ drop (elim b [ true ↦ 0 | false ↦ suc (placeIn p l) ]) (f ∷ l))
     go true h = refl
     go false h = ap (λ (x : List Entry). f ∷ x) h
 
@@ -75,12 +82,21 @@ shift-turn l n j e d h k =
     let a : j < j + 1 = omega arith in
     let b : j < n + 1 = omega arith in
     let i : j < length l = omega arith in
-    rw (take-set-lt n l j e, drop-set-lt (j + 1) (take n l) j e, drop-set-lt (n + 1) l j e, ahead l n j d h (omega arith), add-one, take-suc-set l j e, append-snoc)
+    rw (
+      take-set-lt n l j e,
+      drop-set-lt (j + 1) (take n l) j e,
+      drop-set-lt (n + 1) l j e,
+      ahead l n j d h (omega arith),
+      add-one,
+      take-suc-set l j e,
+      append-snoc,
+    )
 
 pub shift-end : (l : List Entry) (n : ℕ) (e : Entry) → n < length l → set l n e ≡ insertedAt l n n e
 shift-end l n e h = rw (none-left l n n (omega arith) (omega arith), add-one) (set-split l n e h)
 
-pub inserted : (p : Entry → Bool) (e : Entry) (l : List Entry) (n : ℕ) → n ≤ length l → insertedAt l n (placeIn p (take n l)) e ≡ insert p e (take n l) ++ drop (n + 1) l
+pub inserted : (p : Entry → Bool) (e : Entry) (l : List Entry) (n : ℕ) → n ≤ length l
+    → insertedAt l n (placeIn p (take n l)) e ≡ insert p e (take n l) ++ drop (n + 1) l
 inserted p e l n h =
     let k : placeIn p (take n l) ≤ n = rw (length-take-le n l h) at (place-le p (take n l)) in
     rw (inserts p e (take n l), append-assoc, take-take (placeIn p (take n l)) n l)
@@ -90,10 +106,50 @@ pub shows-all : (count : ℕ) (l : List Entry) → length l ≡ 256 → 256 ≤ 
 shows-all count l h k =
     let e : length l ≤ count = omega arith in
     let i : length l ≤ 256 = omega arith in
-    record { most = omega arith; size = rw (take-all count l e) h; same = rw (take-all count l e, take-all 256 l i) }
+    record { most = omega arith; size = rw (take-all count l e) h; same = rw (take-all count l e, take-all 256 l i); whole = λ j. absurd (omega arith) }
 
 pub shows-some : (count : ℕ) (l : List Entry) → length l ≡ 256 → count < 256 → Shows l count count
-shows-some count l h k = record { most = omega arith; size = length-take-le count l (omega arith); same = refl }
+shows-some count l h k = record { most = omega arith; size = length-take-le count l (omega arith); same = refl; whole = λ j. refl }
 
 pub shot-at : (l : List Entry) (n i : ℕ) (d : Entry) → d .shot ≡ 0 → i < n → getD l i d .shot ≡ getD (shots (take n l)) i 0
-shot-at l n i d z h = sym (ap (λ (x : ℕ). getD (shots (take n l)) i x) (sym z) ∙ List·getD-map (λ (e : Entry). e .shot) (take n l) i d ∙ ap (λ (e : Entry). e .shot) (getD-take n l i d h))
+shot-at l n i d z h = sym
+    (ap (λ (x : ℕ). getD (shots (take n l)) i x) (sym z) ∙ List·getD-map (λ (e : Entry). e .shot) (take n l) i d ∙ ap (λ (e : Entry). e .shot)
+    (getD-take n l i d h))
+
+pub sized : (l : List Entry) (n : ℕ) → length l ≡ 256 → n ≤ 256 → length (take n l) ≡ n
+sized l n h k = length-take-le n l (omega arith)
+
+-- ---- the board with one entry more, its count and its array written out
+pub one-more : (b : Board) (e : Entry) {l : List Entry} → length (listing b) ≡ b .count
+    → l ≡ insert (isBefore (b .«pin_x») (b .«pin_z») e) e (listing b) ++ drop (b .count + 1) (b .entries)
+    → _≡_ {A = Board} (record { «pin_x» = b .«pin_x»; «pin_z» = b .«pin_z»; count = b .count + 1; entries = l }) (withEntry b e)
+unfolding withEntry withListing
+one-more b e n x =
+    let p = isBefore (b .«pin_x») (b .«pin_z») e in
+    let m : length (insert p e (listing b)) ≡ b .count + 1 = insert-length p e (listing b) ∙ omega arith in
+    rw (m, x)
+
+-- ---- an entry turned back, and one taken
+pub refused : (b : Board) (e : Entry) (n : ℕ) {l : List Entry} → l ≡ listing b → n ≡ answerOf l e → (n ≡ 0 → ⊥) → answered n b ≡ enterOf b e
+unfolding enterOf
+refused b e zero s a h = absurd (h refl)
+refused b e (suc n) s a h = rw (← s, ← a)
+
+pub entered : (b : Board) (e : Entry) {n : ℕ} {l : List Entry} {m : Board} → l ≡ listing b → n ≡ answerOf l e → n ≡ 0 → m ≡ withEntry b e
+    → answered 0 m ≡ enterOf b e
+unfolding enterOf
+entered b e s a h x = rw (← s, ← a, h, x)
+
+-- where an entry is taken there is room
+pub room : (b : Board) (e : Entry) {n m : ℕ} → Shows (b .entries) (b .count) n → m ≡ answerOf (take n (b .entries)) e → m ≡ 0
+    → (length (listing b) ≡ b .count) × (b .count < 256)
+room b e {n} s a h = go (tested (listing b) e) (sym (a ∙ ap (λ (l : List Entry). answerOf l e) (s .same)) ∙ h)
+  where
+    go : {k : ℕ} → Tested (listing b) e k → k ≡ 0 → (length (listing b) ≡ b .count) × (b .count < 256)
+    go (far p) k = absurd (omega arith)
+    go (repeated p q) k = absurd (omega arith)
+    go (full p q r) k = absurd (omega arith)
+    go (taken p q r) k =
+        let i : n < 256 = let j = s .size in omega arith in
+        let c = s .whole i in
+        (s .size ∙ sym c, omega arith)

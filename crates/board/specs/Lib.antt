@@ -1,2 +1,9 @@
+pub mod Rules
 pub mod Board
+pub mod Inner
+pub mod Words
+pub mod Sorting
+pub mod Comparing
+pub mod Keys
+pub mod Tests
 pub mod Listing

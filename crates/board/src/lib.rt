@@ -2,8 +2,10 @@
 ghost use mathlib.Core.Path.{_≡_};
 ghost use Prim.Native.Nat.{_+_, _≤_, _<_};
 ghost use mathlib.Core.List.{_++_};
-ghost use lib.ListN.{take, drop};
-ghost use Rattle.board.specs.Board.{keyOf, isBefore, insert, holds, Shows, newOf, emptyBoard, withEntry, enterOf, placeOf, placeIn, insertedAt};
+ghost use lib.ListN.{length, take, drop};
+ghost use Rattle.board.specs.Rules.{keyOf, isBefore, insert, holds, answerOf};
+ghost use Rattle.board.specs.Board.{listing, newOf, emptyBoard, withEntry, enterOf, placeOf};
+ghost use Rattle.board.specs.Inner.{Shows, placeIn, insertedAt};
 
 // An entry: a shot's number and where its ball came to lie.
 pub struct Entry {
@@ -79,6 +81,23 @@ fn holds_shot(entries: [Entry; 256], count: usize, shot: u32) -> bool
     false
 }
 
+// Of the first `count` entries: 10 for a spot beyond 1,000,000, 25 for a shot number that is there already, 24 for a full board.
+fn answer_of(entries: [Entry; 256], count: usize, e: Entry) -> u32
+    requires { ⌜ count ≤ 256 ⌝ }
+    ensures { λ r. ⌜ r ≡ answerOf (take count entries) e ⌝ }
+{
+    if number::within(-1000000.0, 1000000.0, e.x) & number::within(-1000000.0, 1000000.0, e.z) {
+        if holds_shot(entries, count, e.shot) {
+            return 25;
+        }
+        if 256 <= count {
+            return 24;
+        }
+        return 0;
+    }
+    10
+}
+
 // e put at `at`, and the entries from there on moved up by one.
 fn insert_at(entries: [Entry; 256], count: usize, at: usize, e: Entry) -> [Entry; 256]
     requires { ⌜ (at ≤ count) × (count < 256) ⌝ }
@@ -151,7 +170,7 @@ impl Board {
     }
 
     fn with_entry(self, e: Entry) -> Board
-        requires { ⌜ self .count < 256 ⌝ }
+        requires { ⌜ (length (listing self) ≡ self .count) × (self .count < 256) ⌝ }
         ensures { λ r. ⌜ r ≡ withEntry self e ⌝ }
     {
         let entries = self.entries;
@@ -165,34 +184,21 @@ impl Board {
         }
     }
 
-    // One entry more: 10 for a spot beyond 1,000,000, 25 for a shot number that is there already, 24 for a full board.
-    pub fn enter(self, shot: u32, x: f64, z: f64) -> Entered
-        ensures { λ r. ⌜ r ≡ enterOf self shot x z ⌝ }
+    // One entry more, or the number by which it is turned back; then the board is unchanged.
+    pub fn enter(self, e: Entry) -> Entered
+        ensures { λ r. ⌜ r ≡ enterOf self e ⌝ }
     {
-        if number::within(-1000000.0, 1000000.0, x) & number::within(-1000000.0, 1000000.0, z) {
-            let entries = self.entries;
-            let count = self.count;
-            if holds_shot(entries, shown(entries, count), shot) {
-                return Entered {
-                    answer: 25,
-                    board: self,
-                };
-            }
-            if 256 <= count {
-                return Entered {
-                    answer: 24,
-                    board: self,
-                };
-            }
-            let e = Entry { shot, x, z };
+        let entries = self.entries;
+        let answer = answer_of(entries, shown(entries, self.count), e);
+        if answer != 0 {
             return Entered {
-                answer: 0,
-                board: self.with_entry(e),
+                answer,
+                board: self,
             };
         }
         Entered {
-            answer: 10,
-            board: self,
+            answer: 0,
+            board: self.with_entry(e),
         }
     }
 

@@ -3,9 +3,11 @@
 ghost use mathlib.Core.Path.{_≡_};
 ghost use lib.ListN.{length};
 ghost use Rattle.capi.specs.Doors.{reported, stepped, struck, door, settleDoor, settleDoorOf, stepDoorOf, impactDoorOf, heightDoorOf};
+ghost use Rattle.layout.specs.Layout.{boardLength};
 ghost use Rattle.capi.specs.Boards.{entered, newDoorOf, enterDoorOf, placeDoorOf};
 use board::Board;
 use board::Entered;
+use board::Entry;
 use ground::ImpactOut;
 use ground::Settled;
 use ground::StepOut;
@@ -171,13 +173,13 @@ pub extern "C" fn dimple_height(sheet: &[u8], x: f64, z: f64, height: &mut [f64]
     h.answer
 }
 
-// ---- the board, as 771 doubles: the pin's x and z, the count, then 256 times shot, x, z
+// ---- the board, as doubles
 
 #[no_mangle]
 pub extern "C" fn dimple_board_new(pin_x: f64, pin_z: f64, board: &mut [f64]) -> u32
     ensures { λ r. ⌜ door r (now (board .exit)) ≡ newDoorOf «pin_x» «pin_z» (now (board .entry)) ⌝ }
 {
-    if board.len() != 771 {
+    if board.len() != layout::BOARD_LENGTH {
         return 100;
     }
     let e = Board::new(pin_x, pin_z);
@@ -188,7 +190,7 @@ pub extern "C" fn dimple_board_new(pin_x: f64, pin_z: f64, board: &mut [f64]) ->
 
 // The new board; on a number nothing.
 fn write_entered(board: &mut [f64], e: Entered) -> u32
-    requires { ⌜ length (now board) ≡ 771 ⌝ }
+    requires { ⌜ length (now board) ≡ boardLength ⌝ }
     ensures { λ r. ⌜ door r (now (board .exit)) ≡ entered e (now (board .entry)) ⌝ }
 {
     let answer = e.answer;
@@ -202,14 +204,15 @@ fn write_entered(board: &mut [f64], e: Entered) -> u32
 
 #[no_mangle]
 pub extern "C" fn dimple_board_enter(board: &mut [f64], shot: u32, x: f64, z: f64) -> u32
-    ensures { λ r. ⌜ door r (now (board .exit)) ≡ enterDoorOf (now (board .entry)) shot x z ⌝ }
+    ensures { λ r. ⌜ door r (now (board .exit)) ≡ enterDoorOf (now (board .entry)) (record { shot = shot; x = x; z = z }) ⌝ }
 {
-    if board.len() != 771 {
+    if board.len() != layout::BOARD_LENGTH {
         return 100;
     }
     if layout::board_ok(board) {
         let b = layout::board_at(board);
-        return write_entered(board, b.enter(shot, x, z));
+        let e = Entry { shot, x, z };
+        return write_entered(board, b.enter(e));
     }
     101
 }
@@ -218,7 +221,7 @@ pub extern "C" fn dimple_board_enter(board: &mut [f64], shot: u32, x: f64, z: f6
 pub extern "C" fn dimple_board_place(board: &[f64], place: u64, shot: &mut [f64]) -> u32
     ensures { λ r. ⌜ door r (now (shot .exit)) ≡ placeDoorOf (now (board .entry)) place (now (shot .entry)) ⌝ }
 {
-    if board.len() != 771 {
+    if board.len() != layout::BOARD_LENGTH {
         return 100;
     }
     if shot.len() != 1 {

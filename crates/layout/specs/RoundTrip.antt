@@ -21,9 +21,14 @@ use Rattle.number.specs.Order.{eq-self, lt-le-trans, le-lt-trans}
 use Rattle.fields.specs.Fields.{wholeOf, doubleAt}
 use Rattle.board.specs.declared.Board.{Board}
 use Rattle.board.specs.declared.Entry.{Entry}
-use Rattle.board.specs.Board.{isBefore, listing, holds, entry, emptyEntry, emptyBoard, answered, newOf, withEntry, enterOf}
-use Rattle.board.specs.Listing.{All, Sound, Near, all-insert, with-sound}
-use Rattle.layout.specs.Layout.{natOf, isWhole, entryOk, entryAt, entriesOk, entriesAt, boardOk, boardAt, entryFields, entriesFields, boardFields}
+use Rattle.board.specs.Rules.{isBefore, insert}
+use Rattle.board.specs.Inner.{none}
+use Rattle.board.specs.Board.{listing, withListing, emptyEntry, emptyBoard, answered, given, newOf, withEntry, enterOf}
+use Rattle.board.specs.Words.{All, Near}
+use Rattle.board.specs.Sorting.{all-insert}
+use Rattle.board.specs.Tests.{Tested, far, repeated, full, taken, tested, is-near}
+use Rattle.board.specs.Listing.{Sound, with-sound}
+use Rattle.layout.specs.Layout.{width, start, boardLength, natOf, isWhole, entryOk, entryAt, entriesOk, entriesAt, boardOk, boardAt, entryFields, entriesFields, boardFields}
 
 -- ---- a whole number that a u32 holds, as a double and back
 module _ (n : ℕ) (h : n ≤ 4294967295) where
@@ -38,7 +43,8 @@ module _ (n : ℕ) (h : n ≤ 4294967295) where
 
   above : T (lt (neg (dec 1 1)) (wholeOf n))
   unfolding ofInt round neg lt
-  above = lt-le-trans (fin true 1 (pos 0)) (fin false 0 (pos 0)) (wholeOf n) tt tt whole-finite tt (round-mono binary64 0 1 n 1 (omega arith) (omega arith) (omega arith))
+  above = lt-le-trans (fin true 1 (pos 0)) (fin false 0 (pos 0)) (wholeOf n) tt tt whole-finite tt
+      (round-mono binary64 0 1 n 1 (omega arith) (omega arith) (omega arith))
 
   below : T (lt (wholeOf n) (dec 18446744073709551616 1))
   unfolding ofInt round lt
@@ -56,58 +62,62 @@ module _ (n : ℕ) (h : n ≤ 4294967295) where
 
   pub nat-whole : natOf (wholeOf n) ≡ n
   unfolding natOf
-  nat-whole = rw (is-true (lt (neg (dec 1 1)) (wholeOf n)) above, is-true (lt (wholeOf n) (dec 18446744073709551616 1)) below, cut, is-true (leb n 4294967295) (le→leb n 4294967295 h))
+  nat-whole = rw (
+    is-true (lt (neg (dec 1 1)) (wholeOf n)) above,
+    is-true (lt (wholeOf n) (dec 18446744073709551616 1)) below,
+    cut,
+    is-true (leb n 4294967295)
+        (le→leb n 4294967295 h),
+  )
 
   pub whole-is-whole : (m : ℕ) → n ≤ m → isWhole m (wholeOf n) ≡ true
   unfolding isWhole
   whole-is-whole m k = rw (nat-whole, is-true (eq (wholeOf n) (wholeOf n)) (eq-self (wholeOf n) whole-finite), is-true (leb n m) (le→leb n m k))
 
 -- ---- the doubles of an entry
-abbrev none : Entry
-none = entry 0 nan nan
-
-fields-length : (es : List Entry) (n : ℕ) → length (entriesFields es n) ≡ 3 * n
+fields-length : (es : List Entry) (n : ℕ) → length (entriesFields es n) ≡ width * n
 unfolding entriesFields
 fields-length es zero = refl
 fields-length es (suc n) = length-append (entriesFields es n) (entryFields (getD es n none)) ∙ (let h = fields-length es n in omega arith)
 
 -- the double k of entry i
-field-at : (es : List Entry) (n i k : ℕ) → i < n → k < 3 → getD (entriesFields es n) (3 * i + k) nan ≡ getD (entryFields (getD es i none)) k nan
+field-at : (es : List Entry) (n i k : ℕ) → i < n → k < width → getD (entriesFields es n) (width * i + k) nan ≡ getD (entryFields (getD es i none)) k nan
 unfolding entriesFields
 field-at es zero i k h l = absurd (omega arith)
 field-at es (suc n) i k h l = let m : i ≤ n = omega arith in go (λ j. field-at es n i k j l) (eq-or-lt-of-le m)
   where
-    go : (i < n → getD (entriesFields es n) (3 * i + k) nan ≡ getD (entryFields (getD es i none)) k nan) → (i ≡ n) ⊎ (i < n)
-        → getD (entriesFields es n ++ entryFields (getD es n none)) (3 * i + k) nan ≡ getD (entryFields (getD es i none)) k nan
-    go f (inr j) = let e = fields-length es n in List·getD-append (entriesFields es n) (entryFields (getD es n none)) nan (3 * i + k) (omega arith) ∙ f j
+    go : (i < n → getD (entriesFields es n) (width * i + k) nan ≡ getD (entryFields (getD es i none)) k nan) → (i ≡ n) ⊎ (i < n)
+        → getD (entriesFields es n ++ entryFields (getD es n none)) (width * i + k) nan ≡ getD (entryFields (getD es i none)) k nan
+    go f (inr j) = let e = fields-length es n in List·getD-append (entriesFields es n) (entryFields (getD es n none)) nan (width * i + k) (omega arith) ∙ f j
     go f (inl j) =
         let e = fields-length es n in
-        let p : 3 * i + k ≡ length (entriesFields es n) + k = omega arith in
+        let p : width * i + k ≡ length (entriesFields es n) + k = omega arith in
         ap (λ (m : ℕ). getD (entriesFields es n ++ entryFields (getD es n none)) m nan) p
         ∙ getD-append-add (entriesFields es n) (entryFields (getD es n none)) k nan
         ∙ ap (λ (m : ℕ). getD (entryFields (getD es m none)) k nan) (sym j)
 
 module _ (b : Board) where
-  pub written-length : length (boardFields b) ≡ 771
-  unfolding boardFields
-  written-length = length-append (b .«pin_x» ∷ b .«pin_z» ∷ wholeOf (b .count) ∷ []) (entriesFields (b .entries) 256) ∙ ap (λ (n : ℕ). 3 + n) (fields-length (b .entries) 256)
+  abbrev head : List Float
+  head = b .«pin_x» ∷ b .«pin_z» ∷ wholeOf (b .count) ∷ []
 
-  double-at : (i k : ℕ) → i < 256 → k < 3 → doubleAt (boardFields b) (3 + (3 * i + k)) ≡ getD (entryFields (getD (b .entries) i none)) k nan
+  pub written-length : length (boardFields b) ≡ boardLength
   unfolding boardFields
-  double-at i k h l = getD-append-add (b .«pin_x» ∷ b .«pin_z» ∷ wholeOf (b .count) ∷ []) (entriesFields (b .entries) 256) (3 * i + k) nan ∙ field-at (b .entries) 256 i k h l
+  written-length = length-append head (entriesFields (b .entries) 256) ∙ ap (λ (n : ℕ). 3 + n) (fields-length (b .entries) 256)
 
-  at : (i k j : ℕ) → i < 256 → k < 3 → j ≡ 3 + (3 * i + k) → doubleAt (boardFields b) j ≡ getD (entryFields (getD (b .entries) i none)) k nan
-  at i k j h l e = ap (doubleAt (boardFields b)) e ∙ double-at i k h l
+  double-at : (i k j : ℕ) → i < 256 → k < width → j ≡ 3 + (width * i + k) → doubleAt (boardFields b) j ≡ getD (entryFields (getD (b .entries) i none)) k nan
+  unfolding boardFields
+  double-at i k j h l e =
+      ap (doubleAt (boardFields b)) e ∙ getD-append-add head (entriesFields (b .entries) 256) (width * i + k) nan ∙ field-at (b .entries) 256 i k h l
 
   module _ (i : ℕ) (h : i < 256) where
-    shot-at : doubleAt (boardFields b) (3 + 3 * i) ≡ wholeOf (getD (b .entries) i none .shot)
-    shot-at = at i 0 (3 + 3 * i) h (omega arith) (omega arith)
+    shot-at : doubleAt (boardFields b) (start i) ≡ wholeOf (getD (b .entries) i none .shot)
+    shot-at = double-at i 0 (start i) h (omega arith) (omega arith)
 
-    x-at : doubleAt (boardFields b) (4 + 3 * i) ≡ getD (b .entries) i none .x
-    x-at = at i 1 (4 + 3 * i) h (omega arith) (omega arith)
+    x-at : doubleAt (boardFields b) (start i + 1) ≡ getD (b .entries) i none .x
+    x-at = double-at i 1 (start i + 1) h (omega arith) (omega arith)
 
-    z-at : doubleAt (boardFields b) (5 + 3 * i) ≡ getD (b .entries) i none .z
-    z-at = at i 2 (5 + 3 * i) h (omega arith) (omega arith)
+    z-at : doubleAt (boardFields b) (start i + 2) ≡ getD (b .entries) i none .z
+    z-at = double-at i 2 (start i + 2) h (omega arith) (omega arith)
 
 -- ---- boards
 
@@ -133,16 +143,23 @@ module _ (b : Board) (h : Held b) where
   kept-at : (i : ℕ) → i < 256 → Kept (getD (b .entries) i none)
   kept-at i l = all-at Kept (b .entries) i none (h .kept) (let s = h .sound .places in omega arith)
 
-  entry-back : (i : ℕ) → i < 256 → entryAt (boardFields b) i ≡ getD (b .entries) i none
+  entry-back : (i : ℕ) → i < 256 → entryAt (boardFields b) (start i) ≡ getD (b .entries) i none
   unfolding entryAt
   entry-back i l = rw (shot-at b i l, x-at b i l, z-at b i l, nat-whole _ (kept-at i l .0))
 
-  entry-passes : (i : ℕ) → i < 256 → entryOk (boardFields b) i ≡ true
+  entry-passes : (i : ℕ) → i < 256 → entryOk (boardFields b) (start i) ≡ true
   unfolding entryOk
   entry-passes i l =
       let k = kept-at i l in
       let e = getD (b .entries) i none in
-      rw (shot-at b i l, x-at b i l, z-at b i l, whole-is-whole (e .shot) (k .0) 4294967295 (k .0), is-true (aboutOf (dec 1000000 1) (e .x)) (k .1 .0), is-true (aboutOf (dec 1000000 1) (e .z)) (k .1 .1))
+      rw (
+        shot-at b i l,
+        x-at b i l,
+        z-at b i l,
+        whole-is-whole (e .shot) (k .0) 4294967295 (k .0),
+        is-true (aboutOf (dec 1000000 1) (e .x)) (k .1 .0),
+        is-true (aboutOf (dec 1000000 1) (e .z)) (k .1 .1),
+      )
 
   entries-back : (n : ℕ) → n ≤ 256 → entriesAt (boardFields b) n ≡ take n (b .entries)
   unfolding entriesAt
@@ -161,7 +178,13 @@ module _ (b : Board) (h : Held b) where
   unfolding boardOk boardFields
   written-ok =
       let m = h .sound .most in
-      rw (is-true (aboutOf (dec 100000 1) (b .«pin_x»)) (h .pin-x), is-true (aboutOf (dec 100000 1) (b .«pin_z»)) (h .pin-z), whole-is-whole (b .count) (omega arith) 256 m, entries-pass 256 (omega arith))
+      rw (
+        is-true (aboutOf (dec 100000 1) (b .«pin_x»)) (h .pin-x),
+        is-true (aboutOf (dec 100000 1) (b .«pin_z»)) (h .pin-z),
+        whole-is-whole (b .count)
+            (omega arith) 256 m,
+        entries-pass 256 (omega arith),
+      )
 
   -- and it is read back as it was
   pub written-back : boardAt (boardFields b) ≡ b
@@ -217,13 +240,14 @@ pub new-held : (px pz : Float) → Held (newOf px pz .board)
 unfolding newOf
 new-held px pz = go (aboutOf (dec 100000 1) px) (aboutOf (dec 100000 1) pz) (λ t. t) (λ t. t)
   where
-    go : (p q : Bool) → (T p → T (aboutOf (dec 100000 1) px)) → (T q → T (aboutOf (dec 100000 1) pz)) → Held (cond (p && q) (answered 0 (emptyBoard px pz)) (answered 9 (emptyBoard (dec 0 1) (dec 0 1))) .board)
+    go : (p q : Bool) → (T p → T (aboutOf (dec 100000 1) px)) → (T q → T (aboutOf (dec 100000 1) pz))
+        → Held (cond (p && q) (answered 0 (emptyBoard px pz)) (answered 9 (emptyBoard (dec 0 1) (dec 0 1))) .board)
     go true true f g = empty-held px pz (f tt) (g tt)
     go true false f g = empty-held (dec 0 1) (dec 0 1) pin-of-0 pin-of-0
     go false q f g = empty-held (dec 0 1) (dec 0 1) pin-of-0 pin-of-0
 
-with-held : (b : Board) (e : Entry) → b .count < 256 → Kept e → Held b → Held (withEntry b e)
-unfolding withEntry
+with-held : (b : Board) (e : Entry) → length (listing b) < 256 → Kept e → Held b → Held (withEntry b e)
+unfolding withEntry withListing
 with-held b e room k h =
     record {
       sound = with-sound b (h .sound) e room;
@@ -231,18 +255,16 @@ with-held b e room k h =
       pin-z = h .pin-z;
       kept =
           all-append Kept _ _ (all-insert Kept (isBefore (b .«pin_x») (b .«pin_z») e) e (listing b) k (all-take Kept (b .count) (b .entries) (h .kept)))
-          (all-drop Kept (b .count + 1) (b .entries) (h .kept));
+          (all-drop Kept (length (insert (isBefore (b .«pin_x») (b .«pin_z») e) e (listing b))) (b .entries) (h .kept));
     }
 
 -- with a shot number that a u32 holds, on every answer
-pub enter-held : (b : Board) (n : ℕ) (x z : Float) → n ≤ 4294967295 → Held b → Held (enterOf b n x z .board)
+pub enter-held : (b : Board) (e : Entry) → e .shot ≤ 4294967295 → Held b → Held (enterOf b e .board)
 unfolding enterOf
-enter-held b n x z m h = go (aboutOf (dec 1000000 1) x) (aboutOf (dec 1000000 1) z) (holds n (listing b)) (leb 256 (b .count)) (λ t. t) (λ t. t) (nleb→lt 256 (b .count))
+enter-held b e m h = go (tested (listing b) e)
   where
-    go : (p q y f : Bool) → (T p → T (aboutOf (dec 1000000 1) x)) → (T q → T (aboutOf (dec 1000000 1) z)) → (T (not f) → b .count < 256)
-        → Held (cond (p && q) (cond y (answered 25 b) (cond f (answered 24 b) (answered 0 (withEntry b (entry n x z))))) (answered 10 b) .board)
-    go true true true f i j k = h
-    go true true false true i j k = h
-    go true true false false i j k = with-held b (entry n x z) (k tt) (m, (i tt, j tt)) h
-    go true false y f i j k = h
-    go false q y f i j k = h
+    go : {n : ℕ} → Tested (listing b) e n → Held (given b e n .board)
+    go (far p) = h
+    go (repeated p q) = h
+    go (full p q r) = h
+    go (taken p q r) = with-held b e r (m, is-near e p) h

@@ -1,12 +1,17 @@
-// A board as 771 doubles: the pin's x and z, the count, then 256 times shot, x, z.
+// A board as doubles: the pin's x and z, the count, then 256 entries, each shot, x, z.
 ghost use mathlib.Core.Path.{_≡_};
 ghost use Prim.Native.Nat.{_+_, _*_, _≤_};
 ghost use mathlib.Core.List.{_++_};
 ghost use lib.ListN.{length, take};
 ghost use Rattle.fields.specs.Fields.{written};
-ghost use Rattle.layout.specs.Layout.{natOf, isWhole, entryOk, entryAt, entriesOk, entriesAt, boardOk, boardAt, entryFields, entriesFields, boardFields};
+ghost use Rattle.layout.specs.Layout.{width, start, boardLength, natOf, isWhole, entryOk, entryAt, entriesOk, entriesAt, boardOk, boardAt, entryFields, entriesFields, boardFields};
 use board::Board;
 use board::Entry;
+
+// The doubles of an entry.
+const WIDTH: usize = 3;
+// The doubles of a board.
+pub const BOARD_LENGTH: usize = 771;
 
 // A double without its fraction, or 0 where that is no u32.
 fn nat_of(x: f64) -> u32
@@ -34,41 +39,41 @@ fn is_whole(x: f64, most: u32) -> bool
     (x == y) & (n <= most)
 }
 
-fn entry_ok(l: &[f64], i: usize) -> bool
-    requires { ⌜ 6 + 3 * i ≤ length (now l) ⌝ }
-    ensures { λ r. ⌜ r ≡ entryOk (now (l .entry)) i ⌝ }
+fn entry_ok(l: &[f64], o: usize) -> bool
+    requires { ⌜ o + width ≤ length (now l) ⌝ }
+    ensures { λ r. ⌜ r ≡ entryOk (now (l .entry)) o ⌝ }
 {
-    is_whole(l[3 + 3 * i], 4294967295)
-        & number::within(-1000000.0, 1000000.0, l[4 + 3 * i])
-        & number::within(-1000000.0, 1000000.0, l[5 + 3 * i])
+    is_whole(l[o], 4294967295)
+        & number::within(-1000000.0, 1000000.0, l[o + 1])
+        & number::within(-1000000.0, 1000000.0, l[o + 2])
 }
 
-fn entry_at(l: &[f64], i: usize) -> Entry
-    requires { ⌜ 6 + 3 * i ≤ length (now l) ⌝ }
-    ensures { λ r. ⌜ r ≡ entryAt (now (l .entry)) i ⌝ }
+fn entry_at(l: &[f64], o: usize) -> Entry
+    requires { ⌜ o + width ≤ length (now l) ⌝ }
+    ensures { λ r. ⌜ r ≡ entryAt (now (l .entry)) o ⌝ }
 {
     Entry {
-        shot: nat_of(l[3 + 3 * i]),
-        x: l[4 + 3 * i],
-        z: l[5 + 3 * i],
+        shot: nat_of(l[o]),
+        x: l[o + 1],
+        z: l[o + 2],
     }
 }
 
 fn entries_ok(l: &[f64]) -> bool
-    requires { ⌜ length (now l) ≡ 771 ⌝ }
+    requires { ⌜ length (now l) ≡ boardLength ⌝ }
     ensures { λ r. ⌜ r ≡ entriesOk (now (l .entry)) 256 ⌝ }
 {
     let mut ok = true;
     let mut i = 0;
     while i < 256 {
-        ok = ok & entry_ok(l, i);
+        ok = ok & entry_ok(l, 3 + WIDTH * i);
         i += 1;
     }
     ok
 }
 
 fn entries_at(l: &[f64]) -> [Entry; 256]
-    requires { ⌜ length (now l) ≡ 771 ⌝ }
+    requires { ⌜ length (now l) ≡ boardLength ⌝ }
     ensures { λ r. ⌜ r ≡ entriesAt (now (l .entry)) 256 ⌝ }
 {
     let mut out = [Entry {
@@ -78,7 +83,7 @@ fn entries_at(l: &[f64]) -> [Entry; 256]
     }; 256];
     let mut i = 0;
     while i < 256 {
-        out[i] = entry_at(l, i);
+        out[i] = entry_at(l, 3 + WIDTH * i);
         i += 1;
     }
     out
@@ -86,7 +91,7 @@ fn entries_at(l: &[f64]) -> [Entry; 256]
 
 // Whether the doubles are a board's.
 pub fn board_ok(l: &[f64]) -> bool
-    requires { ⌜ length (now l) ≡ 771 ⌝ }
+    requires { ⌜ length (now l) ≡ boardLength ⌝ }
     ensures { λ r. ⌜ r ≡ boardOk (now (l .entry)) ⌝ }
 {
     number::within(-100000.0, 100000.0, l[0])
@@ -96,7 +101,7 @@ pub fn board_ok(l: &[f64]) -> bool
 }
 
 pub fn board_at(l: &[f64]) -> Board
-    requires { ⌜ length (now l) ≡ 771 ⌝ }
+    requires { ⌜ length (now l) ≡ boardLength ⌝ }
     ensures { λ r. ⌜ r ≡ boardAt (now (l .entry)) ⌝ }
 {
     let entries = entries_at(l);
@@ -109,28 +114,28 @@ pub fn board_at(l: &[f64]) -> Board
     }
 }
 
-fn write_entry(out: &mut [f64], i: usize, e: Entry)
-    requires { ⌜ 6 + 3 * i ≤ length (now out) ⌝ }
-    ensures { λ _. ⌜ now (out .exit) ≡ written (now (out .entry)) (3 + 3 * i) (entryFields e) ⌝ }
+fn write_entry(out: &mut [f64], o: usize, e: Entry)
+    requires { ⌜ o + width ≤ length (now out) ⌝ }
+    ensures { λ _. ⌜ now (out .exit) ≡ written (now (out .entry)) o (entryFields e) ⌝ }
 {
     let rec = [fields::whole(e.shot as u64), e.x, e.z];
-    fields::put(out, 3 + 3 * i, &rec);
+    fields::put(out, o, &rec);
 }
 
 fn write_entries(out: &mut [f64], entries: [Entry; 256])
-    requires { ⌜ length (now out) ≡ 771 ⌝ }
+    requires { ⌜ length (now out) ≡ boardLength ⌝ }
     ensures { λ _. ⌜ now (out .exit) ≡ take 3 (now (out .entry)) ++ entriesFields entries 256 ⌝ }
 {
     let mut i = 0;
     while i < 256 {
-        write_entry(out, i, entries[i]);
+        write_entry(out, 3 + WIDTH * i, entries[i]);
         i += 1;
     }
 }
 
 // Writes the board over the doubles.
 pub fn write_board(out: &mut [f64], b: Board)
-    requires { ⌜ length (now out) ≡ 771 ⌝ }
+    requires { ⌜ length (now out) ≡ boardLength ⌝ }
     ensures { λ _. ⌜ now (out .exit) ≡ boardFields b ⌝ }
 {
     let head = [b.pin_x, b.pin_z, fields::whole(b.count as u64)];

@@ -2,11 +2,11 @@ use Prim.Native.Nat.{_≤_, _-_}
 use native.Mathlib.Omega.{arith}
 use mathlib.Core.Path.{_≡_, refl}
 use borrow.Author.Tests.{eq-eqb, ne-eqb}
-use lib.Ieee.{nan}
 use lib.ListN.{length, take, drop}
 use mathlib.Core.Path.{_∙_, sym}
 use Rattle.board.proofs.Lists.{held, not-held, missing}
-use Rattle.board.specs.Board.{holds}
+use Rattle.board.specs.Rules.{holds}
+use Rattle.board.specs.Inner.{none}
 use Rattle.board.proofs.holds_shot.Statement.{statement}
 use Rattle.board.proofs.holds_shot.Tie as tie
 use Rattle.board.proofs.holds_shot.Reads as reads
@@ -31,7 +31,8 @@ array-copy-out-e : tie.Need-array-copy-out-e Inv-loop μ-loop
 array-copy-out-e c = omega arith
 
 returns : tie.Need-returns Inv-loop μ-loop
-returns c = held _ _ (long (c .before .before .before .before .before)) _ _ _ (c .before .before .before .before .loop .inv .1) (c .before .before .before .loop-test .taken) (eq-eqb _ _ (c .if1 .taken))
+returns c = held _ _ (long (c .before .before .before .before .before)) _ _ _ (c .before .before .before .before .loop .inv .1)
+    (c .before .before .before .loop-test .taken) (eq-eqb _ _ (c .if1 .taken))
 
 add-i : tie.Need-add-i Inv-loop μ-loop
 add-i c = omega arith
@@ -40,10 +41,14 @@ loop-less : tie.Need-loop-less Inv-loop μ-loop
 loop-less c = omega arith
 
 loop-again : tie.Need-loop-again Inv-loop μ-loop
-loop-again c = (omega arith, not-held _ _ (long (c .before .before .before .before .before)) _ _ _ (c .before .before .before .before .loop .inv .1) (c .before .before .before .loop-test .taken) (ne-eqb _ _ (c .if1 .left)))
+loop-again c = (
+  omega arith,
+  not-held _ _ (long (c .before .before .before .before .before)) _ _ _ (c .before .before .before .before .loop .inv .1)
+      (c .before .before .before .loop-test .taken) (ne-eqb _ _ (c .if1 .left)),
+)
 
 returns-2 : tie.Need-returns-2 Inv-loop μ-loop
-returns-2 c = missing _ _ (long (c .before .before)) _ (record { shot = 0; x = nan; z = nan }) _ (c .before .loop .inv .1) (c .loop-test .left)
+returns-2 c = missing _ _ (long (c .before .before)) _ none _ (c .before .loop .inv .1) (c .loop-test .left)
 
 pub holds-shot-spec : {M : Type 1} → statement M
 holds-shot-spec =

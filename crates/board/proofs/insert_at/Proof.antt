@@ -4,7 +4,7 @@ use mathlib.Core.Path.{_≡_, refl}
 use lib.ListN.{length, length-set}
 use mathlib.Core.Path.{_∙_}
 use Rattle.board.proofs.Lists.{shift-turn, shift-end}
-use Rattle.board.specs.Board.{insertedAt}
+use Rattle.board.specs.Inner.{insertedAt}
 use Rattle.board.proofs.insert_at.Statement.{statement}
 use Rattle.board.proofs.insert_at.Tie as tie
 use Rattle.board.proofs.insert_at.Reads as reads

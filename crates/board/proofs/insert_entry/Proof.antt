@@ -4,7 +4,8 @@ use native.Mathlib.Omega.{arith}
 use mathlib.Core.Path.{_≡_}
 use lib.ListN.{length, take}
 use lib.Seq.{length-take-le}
-use Rattle.board.specs.Board.{isBefore, placeIn}
+use Rattle.board.specs.Rules.{isBefore}
+use Rattle.board.specs.Inner.{placeIn}
 use Rattle.board.proofs.Lists.{place-le, inserted}
 use borrow.Author.Needs.{needs}
 use Rattle.board.proofs.insert_entry.Statement.{statement}
@@ -23,7 +24,8 @@ insert-at-requires c κs =
     let l : length (a .entries) ≡ 256 = c .before .good .0 .1 .0 .1 in
     let p = c .before .pre in
     let n : length (take (a .count) (a .entries)) ≡ a .count = length-take-le (a .count) (a .entries) (omega arith) in
-    let k : placeIn (isBefore (a .pin-x) (a .pin-z) (a .e)) (take (a .count) (a .entries)) ≤ length (take (a .count) (a .entries)) = place-le _ (take (a .count) (a .entries)) in
+    let k : placeIn (isBefore (a .pin-x) (a .pin-z) (a .e)) (take (a .count) (a .entries)) ≤ length (take (a .count) (a .entries)) = place-le _
+    (take (a .count) (a .entries)) in
     (rw (c .place-of .ensures) (omega arith), p)
 
 returns : tie.Need-returns

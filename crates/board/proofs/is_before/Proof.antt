@@ -1,4 +1,5 @@
-use Rattle.board.specs.Board.{isBefore}
+use mathlib.Core.Bool.{and-false, or-false}
+use Rattle.board.specs.Rules.{byFirst, isBefore}
 use borrow.Author.Needs.{needs}
 use Rattle.board.proofs.is_before.Statement.{statement}
 use Rattle.board.proofs.is_before.Tie as tie
@@ -13,8 +14,8 @@ key-requires-2 : tie.Need-key-requires-2
 key-requires-2 c κs = search needs
 
 returns : tie.Need-returns
-unfolding isBefore
-returns c = simp (← c .before .before .key2 .ensures, ← c .before .before .before .key .ensures)
+unfolding isBefore byFirst
+returns c = simp (← c .before .before .key2 .ensures, ← c .before .before .before .key .ensures, and-false, or-false)
 
 pub is-before-spec : {M : Type 1} → statement M
 is-before-spec = tie.close (tie.spec key-requires key-requires-2 returns)

@@ -1,5 +1,5 @@
 use mathlib.Core.Path.{refl}
-use Rattle.board.specs.Board.{keyOf}
+use Rattle.board.specs.Rules.{keyOf}
 use Rattle.board.proofs.key.Statement.{statement}
 use Rattle.board.proofs.key.Tie as tie
 use Rattle.board.proofs.key.Reads as reads

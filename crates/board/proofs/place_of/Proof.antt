@@ -2,12 +2,12 @@ use Prim.Native.Nat.{_≤_, _-_, _+_}
 use native.Mathlib.Omega.{arith}
 use native.Mathlib.Nat.{zero-add}
 use mathlib.Core.Path.{_≡_, refl}
-use lib.Ieee.{nan}
 use mathlib.Core.Path.{_∙_, sym}
 use Rattle.board.proofs.Lists.{here, further, last}
 use lib.ListN.{length, take, drop}
 use borrow.Author.Needs.{needs}
-use Rattle.board.specs.Board.{isBefore, placeIn}
+use Rattle.board.specs.Rules.{isBefore}
+use Rattle.board.specs.Inner.{none, placeIn}
 use Rattle.board.proofs.place_of.Statement.{statement}
 use Rattle.board.proofs.place_of.Tie as tie
 use Rattle.board.proofs.place_of.Reads as reads
@@ -15,7 +15,8 @@ use Rattle.board.proofs.place_of.Lts as lts
 use Rattle.board.proofs.is_before.Reads as is-before-reads
 
 abbrev Inv-loop : tie.InvT-loop
-Inv-loop count pin-x pin-z e entries i₀ i = (i ≤ count) × (i + placeIn (isBefore pin-x pin-z e) (drop i (take count entries)) ≡ placeIn (isBefore pin-x pin-z e) (take count entries))
+Inv-loop count pin-x pin-z e entries i₀ i = (i ≤ count) ×
+    (i + placeIn (isBefore pin-x pin-z e) (drop i (take count entries)) ≡ placeIn (isBefore pin-x pin-z e) (take count entries))
 
 abbrev μ-loop : tie.MeasureT-loop
 μ-loop count pin-x pin-z e entries i₀ i = count - i
@@ -36,7 +37,8 @@ is-before-requires : tie.Need-is-before-requires Inv-loop μ-loop
 is-before-requires c κs = search needs
 
 returns : tie.Need-returns Inv-loop μ-loop
-returns c = here _ _ (long (c .before .before .before .before .before)) _ _ _ (c .before .before .before .before .loop .inv .1) (c .before .before .before .loop-test .taken) (sym (c .before .is-before .ensures) ∙ c .if1 .taken)
+returns c = here _ _ (long (c .before .before .before .before .before)) _ _ _ (c .before .before .before .before .loop .inv .1)
+    (c .before .before .before .loop-test .taken) (sym (c .before .is-before .ensures) ∙ c .if1 .taken)
 
 add-i : tie.Need-add-i Inv-loop μ-loop
 add-i c = omega arith
@@ -45,10 +47,14 @@ loop-less : tie.Need-loop-less Inv-loop μ-loop
 loop-less c = omega arith
 
 loop-again : tie.Need-loop-again Inv-loop μ-loop
-loop-again c = (omega arith, further _ _ (long (c .before .before .before .before .before)) _ _ _ (c .before .before .before .before .loop .inv .1) (c .before .before .before .loop-test .taken) (sym (c .before .is-before .ensures) ∙ c .if1 .left))
+loop-again c = (
+  omega arith,
+  further _ _ (long (c .before .before .before .before .before)) _ _ _ (c .before .before .before .before .loop .inv .1)
+      (c .before .before .before .loop-test .taken) (sym (c .before .is-before .ensures) ∙ c .if1 .left),
+)
 
 returns-2 : tie.Need-returns-2 Inv-loop μ-loop
-returns-2 c = last _ _ (long (c .before .before)) _ (record { shot = 0; x = nan; z = nan }) _ (c .before .loop .inv .1) (c .loop-test .left)
+returns-2 c = last _ _ (long (c .before .before)) _ none _ (c .before .loop .inv .1) (c .loop-test .left)
 
 pub place-of-spec : {M : Type 1} → statement M
 place-of-spec =

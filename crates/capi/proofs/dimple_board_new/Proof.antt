@@ -11,7 +11,9 @@ returns c = rw (ne-eqb _ _ (c .if1 .taken))
 
 returns-2 : tie.Need-returns-2
 unfolding newDoorOf
-returns-2 c = rw (eq-eqb _ _ (c .before .before .before .before .before .before .if1 .left), ← c .before .before .before .before .before .new .ensures, c .before .before .write-board .ensures)
+returns-2 c =
+    let at-new = c .before .before .before .before .before in
+    rw (eq-eqb _ _ (at-new .before .if1 .left), ← at-new .new .ensures, c .before .before .write-board .ensures)
 
 pub dimple-board-new-spec : {M : Type 1} → statement M
 dimple-board-new-spec =

@@ -11,13 +11,14 @@ use Rattle.board.specs.Board.{placeOf}
 use Rattle.board.specs.declared.Board.{Board}
 use Rattle.board.specs.declared.Placed.{Placed}
 use Rattle.fields.specs.Fields.{wholeOf, written}
-use Rattle.layout.specs.Layout.{boardOk, boardAt}
+use Rattle.layout.specs.Layout.{boardLength, boardOk, boardAt}
 use Rattle.capi.specs.Doors.{door}
 use Rattle.capi.specs.Boards.{placeDoorOf}
 use Rattle.capi.proofs.dimple_board_place.Statement.{statement}
 use Rattle.capi.proofs.dimple_board_place.Tie as tie
 
-places : (l : List Float) (i : ℕ) (out : List Float) {b : Board} {p : Placed} {s : Float} {m : List Float} → length l ≡ 771 → length out ≡ 1 → boardOk l ≡ true → b ≡ boardAt l
+places : (l : List Float) (i : ℕ) (out : List Float) {b : Board} {p : Placed} {s : Float} {m : List Float} → length l ≡ boardLength → length out ≡ 1
+    → boardOk l ≡ true → b ≡ boardAt l
     → p ≡ placeOf b i → s ≡ wholeOf (p .shot) → m ≡ written out 0 (s ∷ []) → door (p .answer) m ≡ placeDoorOf l i out
 unfolding placeDoorOf
 places l i out h j k x1 x2 x3 x4 = rw (eq-eqb _ _ h, eq-eqb _ _ j, k, ← x1, ← x2, x4, x3)
@@ -32,12 +33,20 @@ returns-2 c = rw (eq-eqb _ _ (c .before .if1 .left), ne-eqb _ _ (c .if2 .taken))
 
 returns-3 : tie.Need-returns-3
 returns-3 c =
-    let a = c .before .before .before .before .before .before .before .before .before .before .before .before .before .before .before .args in
-    places (a .board .now) (a .place) (a .shot .now) (c .before .before .before .before .before .before .before .before .before .before .before .before .if1 .left) (c .before .before .before .before .before .before .before .before .before .before .before .if2 .left) (sym (c .before .before .before .before .before .before .before .before .before .before .board-ok .ensures) ∙ c .before .before .before .before .before .before .before .before .before .if3 .taken) (c .before .before .before .before .before .before .before .before .board-at .ensures) (c .before .before .before .before .before .before .before .place .ensures) (c .before .before .before .before .before .whole .ensures) (c .before .before .put .ensures)
+    let at-whole = c .before .before .before .before .before in
+    let at-board-at = at-whole .before .before .before in
+    let at-if2 = at-board-at .before .before .before in
+    let at-start = at-if2 .before .before .before .before in
+    let a = at-start .args in
+    places (a .board .now) (a .place) (a .shot .now) (at-if2 .before .if1 .left) (at-if2 .if2 .left)
+    (sym (at-board-at .before .before .board-ok .ensures) ∙ at-board-at .before .if3 .taken) (at-board-at .board-at .ensures)
+    (at-whole .before .before .place .ensures) (at-whole .whole .ensures) (c .before .before .put .ensures)
 
 returns-4 : tie.Need-returns-4
 unfolding placeDoorOf
-returns-4 c = rw (eq-eqb _ _ (c .before .before .before .if1 .left), eq-eqb _ _ (c .before .before .if2 .left), sym (c .before .board-ok .ensures) ∙ c .if3 .left)
+returns-4 c =
+    let at-if1 = c .before .before .before in
+    rw (eq-eqb _ _ (at-if1 .if1 .left), eq-eqb _ _ (c .before .before .if2 .left), sym (c .before .board-ok .ensures) ∙ c .if3 .left)
 
 pub dimple-board-place-spec : {M : Type 1} → statement M
 dimple-board-place-spec =

@@ -7,7 +7,12 @@ use Rattle.layout.proofs.board_ok.Tie as tie
 
 returns : tie.Need-returns
 unfolding boardOk ofBits round neg
-returns c = rw (c .before .before .before .before .before .within .ensures, c .before .before .before .within2 .ensures, c .before .is-whole .ensures, c .entries-ok .ensures)
+returns c = rw (
+  c .before .before .before .before .before .within .ensures,
+  c .before .before .before .within2 .ensures,
+  c .before .is-whole .ensures,
+  c .entries-ok .ensures,
+)
 
 pub board-ok-spec : {M : Type 1} → statement M
 board-ok-spec =

@@ -35,8 +35,12 @@ loop-less c = omega arith
 loop-again : tie.Need-loop-again Inv-loop μ-loop
 unfolding entriesAt
 loop-again c =
-    let h : c .before .before .loop .i < length (c .before .before .loop .out) = omega arith in
-    (omega arith, simp length-set (c .before .before .loop .inv .1), rw (add-one, take-suc-set (c .before .before .loop .out) (c .before .before .loop .i) _ h, c .before .before .loop .inv .2, c .entry-at .ensures))
+    let h : c .before .before .loop .i < length (c .before .before .loop .out) = omega arith in (
+      omega arith,
+      simp length-set (c .before .before .loop .inv .1),
+      rw
+          (add-one, take-suc-set (c .before .before .loop .out) (c .before .before .loop .i) _ h, c .before .before .loop .inv .2, c .entry-at .ensures),
+    )
 
 returns : tie.Need-returns Inv-loop μ-loop
 returns c =
@@ -51,6 +55,8 @@ entries-at-spec =
     Inv-loop
     μ-loop
     loop-holds
+    (λ c. search needs)
+    (λ c. search needs)
     entry-at-requires
     mul-out
     array-set-from-out

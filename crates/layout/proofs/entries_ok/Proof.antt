@@ -40,6 +40,8 @@ entries-ok-spec =
     Inv-loop
     μ-loop
     loop-holds
+    (λ c. search needs)
+    (λ c. search needs)
     entry-ok-requires
     (λ c. search needs)
     loop-less

@@ -18,7 +18,13 @@ returns c = simp (c .before .before .before .if1 .taken, c .before .before .if2 
 
 returns-2 : tie.Need-returns-2
 unfolding natOf ofBits round neg
-returns-2 c = simp (c .before .before .before .if1 .taken, c .before .before .if2 .taken, ← c .before .truncating-f64-to-u64 .ensures, lt-leb _ _ (c .if3 .left))
+returns-2 c = simp (
+  c .before .before .before .if1 .taken,
+  c .before .before .if2 .taken,
+  ← c .before .truncating-f64-to-u64 .ensures,
+  lt-leb _ _
+      (c .if3 .left),
+)
 
 returns-3 : tie.Need-returns-3
 unfolding natOf ofBits round neg

@@ -7,7 +7,11 @@ use Rattle.layout.proofs.write_board.Tie as tie
 
 returns : tie.Need-returns
 unfolding boardFields written
-returns c = rw (c .before .before .write-entries .ensures, c .before .before .before .before .before .before .before .put .ensures, c .before .before .before .before .before .before .before .before .before .before .whole .ensures)
+returns c =
+    let at-out = c .before .before .before .before .before .before in
+    let at-put = at-out .before in
+    let at-whole = at-put .before .before .before in
+    rw (c .before .before .write-entries .ensures, at-put .put .ensures, at-whole .whole .ensures)
 
 pub write-board-spec : {M : Type 1} → statement M
 write-board-spec =

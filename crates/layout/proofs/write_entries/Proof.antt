@@ -4,34 +4,35 @@ use native.Mathlib.Omega.{arith}
 use native.Mathlib.Numerals.{add-one}
 use mathlib.Core.Path.{_≡_, ap, _∙_, sym, subst}
 use mathlib.Core.List.{List, _++_, append-nil, append-assoc}
-use lib.Ieee.{Float, nan}
+use lib.Ieee.{Float}
 use lib.ListN.{length, take, getD}
 use lib.Seq.{take-all}
 use borrow.Author.Needs.{needs}
 use Rattle.board.specs.declared.Entry.{Entry}
+use Rattle.board.specs.Inner.{none}
 use Rattle.fields.specs.Fields.{written}
-use Rattle.layout.specs.Layout.{entryFields, entriesFields}
+use Rattle.layout.specs.Layout.{width, start, boardLength, entryFields, entriesFields}
 use Rattle.layout.proofs.Laws.{take-written, length-written}
 use Rattle.layout.proofs.write_entries.Statement.{statement}
 use Rattle.layout.proofs.write_entries.Tie as tie
 
 abbrev Inv-loop : tie.InvT-loop
-Inv-loop out₀ entries i₀ out i = (i ≤ 256) × (length out ≡ 771) × (take (3 + 3 * i) out ≡ take 3 out₀ ++ entriesFields entries i)
+Inv-loop out₀ entries i₀ out i = (i ≤ 256) × (length out ≡ boardLength) × (take (start i) out ≡ take 3 out₀ ++ entriesFields entries i)
 
 abbrev μ-loop : tie.MeasureT-loop
 μ-loop out₀ entries i₀ out i = 256 - i
 
 -- one entry more
-next : (l₀ l m : List Float) (es : List Entry) (i : ℕ) → i + 1 ≤ 256 → length l ≡ 771 → take (3 + 3 * i) l ≡ take 3 l₀ ++ entriesFields es i
-    → m ≡ written l (3 + 3 * i) (entryFields (getD es i (record { shot = 0; x = nan; z = nan })))
-    → (length m ≡ 771) × (take (3 + 3 * (i + 1)) m ≡ take 3 l₀ ++ entriesFields es (i + 1))
+next : (l₀ l m : List Float) (es : List Entry) (i : ℕ) → i + 1 ≤ 256 → length l ≡ boardLength → take (start i) l ≡ take 3 l₀ ++ entriesFields es i
+    → m ≡ written l (start i) (entryFields (getD es i none))
+    → (length m ≡ boardLength) × (take (start (i + 1)) m ≡ take 3 l₀ ++ entriesFields es (i + 1))
 unfolding entriesFields
 next l₀ l m es i b h t e =
-    let r = entryFields (getD es i (record { shot = 0; x = nan; z = nan })) in
-    let f : 3 + 3 * i + 3 ≤ length l = omega arith in
-    let k : 3 + 3 * (i + 1) ≡ 3 + 3 * i + 3 = omega arith in (
-      ap length e ∙ length-written l (3 + 3 * i) r f ∙ h,
-      ap (take (3 + 3 * (i + 1))) e ∙ ap (λ (n : ℕ). take n (written l (3 + 3 * i) r)) k ∙ take-written l (3 + 3 * i) r f
+    let r = entryFields (getD es i none) in
+    let f : start i + width ≤ length l = omega arith in
+    let k : start (i + 1) ≡ start i + width = omega arith in (
+      ap length e ∙ length-written l (start i) r f ∙ h,
+      ap (take (start (i + 1))) e ∙ ap (λ (n : ℕ). take n (written l (start i) r)) k ∙ take-written l (start i) r f
           ∙ ap (λ (x : List Float). x ++ r) t ∙ append-assoc (take 3 l₀) (entriesFields es i) r ∙ rw add-one,
     )
 
@@ -53,18 +54,21 @@ loop-less c = omega arith
 
 loop-again : tie.Need-loop-again Inv-loop μ-loop
 loop-again c =
-    let a = c .before .before .before .before .before .before .before .before .args in
-    let v = c .before .before .before .before .before .before .loop .inv in
-    let b : c .before .before .before .before .before .before .loop .i + 1 ≤ 256 = omega arith in
-    let n = next (a .out .now) (c .before .before .before .before .before .before .loop .out) _ (a .t2) (c .before .before .before .before .before .before .loop .i) b (v .1) (v .2) (c .before .before .write-entry .ensures) in
+    let at-loop = c .before .before .before .before .before .before in
+    let a = at-loop .before .before .args in
+    let v = at-loop .loop .inv in
+    let b : at-loop .loop .i + 1 ≤ 256 = omega arith in
+    let n = next (a .out .now) (at-loop .loop .out) _ (a .t2) (at-loop .loop .i) b (v .1) (v .2) (c .before .before .write-entry .ensures) in
     (b, n .0, n .1)
 
 returns : tie.Need-returns Inv-loop μ-loop
 returns c =
-    let a = c .before .before .before .args in
+    let at-start = c .before .before .before in
+    let a = at-start .args in
     let e : c .before .loop .i ≡ 256 = omega arith in
-    let h : length (c .before .loop .out) ≤ 771 = omega arith in
-    sym (take-all 771 (c .before .loop .out) h) ∙ subst (λ (n : ℕ). take (3 + 3 * n) (c .before .loop .out) ≡ take 3 (a .out .now) ++ entriesFields (a .t2) n) e (c .before .loop .inv .2)
+    let h : length (c .before .loop .out) ≤ boardLength = omega arith in
+    sym (take-all boardLength (c .before .loop .out) h) ∙ subst
+    (λ (n : ℕ). take (start n) (c .before .loop .out) ≡ take 3 (a .out .now) ++ entriesFields (a .t2) n) e (c .before .loop .inv .2)
 
 pub write-entries-spec : {M : Type 1} → statement M
 write-entries-spec =
@@ -74,6 +78,8 @@ write-entries-spec =
     μ-loop
     loop-holds
     mul-write-entry
+    (λ c. search needs)
+    (λ c. search needs)
     array-copy-out-write-entry
     write-entry-requires
     (λ c. search needs)

@@ -1,0 +1,59 @@
+-- Definitions. The board's rules on the list of its entries (01, "Lists and the rest of the shop"; numbers 10, 25, 24): the order of a listing,
+-- by which number an entry is turned back, and where an accepted one goes.
+use Prim.Native.Nat.{ℕ}
+use mathlib.Core.Bool.{Bool, true, false, not, _&&_, _||_, cond}
+use mathlib.Core.List.{List, [], _∷_}
+use lib.Dec.{leb, ltb, eqb}
+use lib.ListN.{length}
+use lib.Ieee.{Float, lt, eq}
+use Rattle.number.specs.Ops.{_⊕_, _⊖_, _⊗_, dec}
+use Rattle.number.specs.Number.{aboutOf}
+use Rattle.board.specs.declared.Entry.{Entry}
+
+-- 01: "Key: dx×dx + dz×dz, in doubles", from the pin
+unfoldable pub keyOf : Float → Float → Entry → Float
+keyOf px pz e = let dx = e .x ⊖ px in let dz = e .z ⊖ pz in dx ⊗ dx ⊕ dz ⊗ dz
+
+-- ---- the order
+
+-- a comparison of two entries: whether the first comes before the second, and whether they are level
+pub record Comparison : Type 0 where
+  pub less : Entry → Entry → Bool
+  pub level : Entry → Entry → Bool
+
+-- whether e comes before f: the first comparison by which they are not level decides
+unfoldable pub byFirst : List Comparison → Entry → Entry → Bool
+byFirst [] e f = false
+byFirst (c ∷ cs) e f = c .less e f || (c .level e f && byFirst cs e f)
+
+-- 01: "Least first"
+abbrev pub leastKey : Float → Float → Comparison
+leastKey px pz = record { less = λ e f. lt (keyOf px pz e) (keyOf px pz f); level = λ e f. eq (keyOf px pz e) (keyOf px pz f) }
+
+-- the lower of two whole numbers first
+abbrev pub lower : (Entry → ℕ) → Comparison
+lower n = record { less = λ e f. ltb (n e) (n f); level = λ e f. eqb (n e) (n f) }
+
+-- 01: "Least first, equal keys by lower shot number"
+unfoldable pub isBefore : Float → Float → Entry → Entry → Bool
+isBefore px pz = byFirst (leastKey px pz ∷ lower (λ e. e .shot) ∷ [])
+
+-- ---- entering
+
+-- 10 is for a spot beyond ±1,000,000
+unfoldable pub near : Entry → Bool
+near e = aboutOf (dec 1000000 1) (e .x) && aboutOf (dec 1000000 1) (e .z)
+
+-- whether a shot number is on the list
+unfoldable pub holds : ℕ → List Entry → Bool
+holds n [] = false
+holds n (e ∷ l) = eqb (e .shot) n || holds n l
+
+-- 10, then "25 shot number already on the board; then 24 board holds 256"; else 0
+unfoldable pub answerOf : List Entry → Entry → ℕ
+answerOf l e = cond (not (near e)) 10 (cond (holds (e .shot) l) 25 (cond (leb 256 (length l)) 24 0))
+
+-- e put in before the first entry that comes after it
+unfoldable pub insert : (Entry → Bool) → Entry → List Entry → List Entry
+insert p e [] = e ∷ []
+insert p e (f ∷ l) = elim (p f) [ true ↦ e ∷ f ∷ l | false ↦ f ∷ insert p e l ]
