@@ -39,6 +39,7 @@ WORDS = {
     26: "there is no entry at that place",
     100: "a buffer has the wrong length",
     101: "the buffer holds no board",
+    102: "the termination is none of rest, time and impacts",
 }
 
 
@@ -120,7 +121,7 @@ def _library():
     lib.dimple_impact.argtypes = [ctypes.c_char_p, size, doubles, size, doubles, size]
     lib.dimple_height.argtypes = [ctypes.c_char_p, size, ctypes.c_double, ctypes.c_double, doubles, size]
     lib.dimple_board_new.argtypes = [ctypes.c_double, ctypes.c_double, doubles, size]
-    lib.dimple_board_enter.argtypes = [doubles, size, ctypes.c_uint32, ctypes.c_double, ctypes.c_double]
+    lib.dimple_board_enter.argtypes = [doubles, size, ctypes.c_uint32, ctypes.c_uint32, ctypes.c_double, ctypes.c_double]
     lib.dimple_board_place.argtypes = [doubles, size, ctypes.c_uint64, doubles, size]
     for door in ("settle", "step", "impact", "height", "board_new", "board_enter", "board_place"):
         getattr(lib, f"dimple_{door}").restype = ctypes.c_uint32
@@ -220,11 +221,13 @@ def on_published_ground(run, rectangle):
 
 
 class Board:
-    """Up to 256 shots, least distance from the pin first, equal distances by the lower shot number."""
+    """Up to 256 shots: those at rest before those still moving, then least distance from the pin first, equal distances by the lower shot number."""
+
+    LENGTH = 1027
 
     def __init__(self, pin):
-        self._buffer = _doubles(771)
-        self._check(_call("dimple_board_new", pin[0], pin[1], self._buffer, 771))
+        self._buffer = _doubles(self.LENGTH)
+        self._check(_call("dimple_board_new", pin[0], pin[1], self._buffer, self.LENGTH))
 
     @staticmethod
     def _check(answer):
@@ -236,12 +239,13 @@ class Board:
         if run.answer != 0:
             raise ValueError(f"a run with answer {run.answer} is not to be entered")
         x, _, z = run.rest.pos
-        self._check(_call("dimple_board_enter", self._buffer, 771, _whole(shot, 32, "the shot number"), x, z))
+        number, ended = _whole(shot, 32, "the shot number"), TERMINATIONS.index(run.termination)
+        self._check(_call("dimple_board_enter", self._buffer, self.LENGTH, number, ended, x, z))
 
     def place(self, at):
         """The shot number at a place, from 0."""
         out = _doubles(1)
-        self._check(_call("dimple_board_place", self._buffer, 771, _whole(at, 64, "the place"), out, 1))
+        self._check(_call("dimple_board_place", self._buffer, self.LENGTH, _whole(at, 64, "the place"), out, 1))
         return int(out[0])
 
     def __len__(self):

@@ -1,5 +1,6 @@
 //! Holds libcapi and libprobe against the reference, bit for bit. See README.md.
 
+mod board;
 mod faults;
 mod leaves;
 mod shots;
@@ -421,6 +422,7 @@ fn main() {
     match args.first().map(String::as_str) {
         Some("settle") => settle_mode(seed, value("--shots", 100_000), n),
         Some("doors") => doors_mode(seed, value("--cases", 200_000), n),
+        Some("board") => board::run(seed, value("--calls", 500_000), n),
         Some("leaves") => leaves::run(seed, value("--share", 100), n, args.get(1).map_or("", |a| a.as_str())),
         Some("replay") => replay_mode(args.get(1).map_or("../crates/replay/data/replay.bin", |a| a.as_str())),
         Some("speed") => speed::run(),
@@ -428,7 +430,7 @@ fn main() {
         Some("unpatched") => unpatched::run(seed, value("--shots", 100_000), n),
         _ => {
             println!(
-                "compare settle [--shots N] | doors [--cases N] | leaves [NAME] [--share PERCENT] | replay [FILE] | speed | faults | unpatched [--shots N]"
+                "compare settle [--shots N] | doors [--cases N] | board [--calls N] | leaves [NAME] [--share PERCENT] | replay [FILE] | speed | faults | unpatched [--shots N]"
             );
             println!("        [--seed N] [--threads N] [--first]");
             std::process::exit(2);

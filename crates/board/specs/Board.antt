@@ -8,6 +8,7 @@ use lib.ListN.{length, take, drop, getD, replicate}
 use lib.Ieee.{Float}
 use Rattle.number.specs.Ops.{dec}
 use Rattle.number.specs.Number.{aboutOf}
+use Rattle.state.specs.declared.Termination.the-variants.{Nothing}
 use Rattle.board.specs.declared.Entry.{Entry}
 use Rattle.board.specs.declared.Board.{Board}
 use Rattle.board.specs.declared.Entered.{Entered}
@@ -24,7 +25,7 @@ withListing b l =
     record { «pin_x» = b .«pin_x»; «pin_z» = b .«pin_z»; count = length l; entries = l ++ drop (length l) (b .entries) }
 
 abbrev pub emptyEntry : Entry
-emptyEntry = record { shot = 0; x = dec 0 1; z = dec 0 1 }
+emptyEntry = record { shot = 0; termination = Nothing; x = dec 0 1; z = dec 0 1 }
 
 abbrev pub emptyBoard : Float → Float → Board
 emptyBoard px pz = record { «pin_x» = px; «pin_z» = pz; count = 0; entries = replicate 256 emptyEntry }

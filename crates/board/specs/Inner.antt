@@ -5,11 +5,12 @@ use mathlib.Core.Bool.{Bool, true, false}
 use mathlib.Core.List.{List, [], _∷_, _++_}
 use lib.ListN.{length, take, drop}
 use lib.Ieee.{nan}
+use Rattle.state.specs.declared.Termination.the-variants.{Nothing}
 use Rattle.board.specs.declared.Entry.{Entry}
 
 -- what a list holds past its end
 abbrev pub none : Entry
-none = record { shot = 0; x = nan; z = nan }
+none = record { shot = 0; termination = Nothing; x = nan; z = nan }
 
 -- how many entries of the list stand before the first of which p holds
 unfoldable pub placeIn : (Entry → Bool) → List Entry → ℕ

@@ -2,7 +2,7 @@
 use Prim.Native.Nat.{ℕ, _+_, _*_, _≤_}
 use native.Mathlib.Omega.{arith}
 use native.Mathlib.Nat.{mul-one, zero-mul, mul-pos, mul-le-mul}
-use mathlib.Core.Path.{_≡_, sym, subst}
+use mathlib.Core.Path.{_≡_, refl, _∙_, sym, subst}
 use mathlib.Core.Logic.{_⊎_, inl, inr}
 use mathlib.Core.Bool.{Bool, true, false}
 use mathlib.Core.List.{List, [], _∷_}
@@ -16,10 +16,12 @@ use Rattle.number.specs.Number.{aboutOf, withinOf, finiteOf}
 use Rattle.number.specs.Order.{Le, le→, lt-le, eq-le, lt-nle, le-total, le-split, lt-le-trans, le-lt-trans, eq-sym, eq-trans}
 use Rattle.number.specs.Order.{le-through, within-lo, within-hi, within-of, between-finite}
 use Rattle.number.specs.Rounding.{about-finite, sub-mono, add-mono, round-between}
+use Rattle.state.specs.declared.Termination.{Termination}
+use Rattle.state.specs.declared.Termination.the-variants.{Nothing, Rest, MaxTime, MaxImpacts}
 use Rattle.board.specs.declared.Entry.{Entry}
-use Rattle.board.specs.Rules.{keyOf, Comparison, leastKey, lower, isBefore}
-use Rattle.board.specs.Words.{Near}
-use Rattle.board.specs.Sorting.{Order}
+use Rattle.board.specs.Rules.{keyOf, Comparison, leastKey, lower, moving, byFirst, isBefore}
+use Rattle.board.specs.Words.{Sorted, RestFirst, Near}
+use Rattle.board.specs.Sorting.{Order, all-map}
 use Rattle.board.specs.Comparing.{Lawful, Laws, Level, lower-lawful, first-asym, first-trans, first-total}
 
 pub wider : (x : Float) → T (aboutOf (dec 100000 1) x) → T (aboutOf (dec 1000000 1) x)
@@ -113,15 +115,15 @@ module _ (px pz : Float) where
           back (inr m) = inr (inr (eq-sym b a j i m, m))
 
   abbrev comparisons : List Comparison
-  comparisons = leastKey px pz ∷ lower (λ e. e .shot) ∷ []
+  comparisons = lower (λ e. moving (e .termination)) ∷ leastKey px pz ∷ lower (λ e. e .shot) ∷ []
 
   laws : Laws Finite comparisons
   unfolding Laws
-  laws = (key-lawful, (lower-lawful Finite (λ e. e .shot), tt))
+  laws = (lower-lawful Finite (λ e. moving (e .termination)), (key-lawful, (lower-lawful Finite (λ e. e .shot), tt)))
 
   level-shots : (e f : Entry) → Level comparisons e f → e .shot ≡ f .shot
   unfolding Level
-  level-shots e f h = eqb→eq (e .shot) (f .shot) (h .1 .0)
+  level-shots e f h = eqb→eq (e .shot) (f .shot) (h .1 .1 .0)
 
   pub key-order : Order Finite (isBefore px pz)
   unfolding isBefore
@@ -140,3 +142,26 @@ module _ (px pz : Float) where
       other e f d h (inl a) = absurd (subst T h a)
       other e f d h (inr (inl a)) = a
       other e f d h (inr (inr a)) = absurd (d (level-shots e f a))
+
+-- one at rest comes before one that moves, whatever their keys
+pub rest-before : (px pz : Float) (e f : Entry) → e .termination ≡ Rest → (f .termination ≡ Rest → ⊥) → isBefore px pz e f ≡ true
+unfolding isBefore byFirst moving
+rest-before px pz e f h k = rw (h, moves (f .termination) k)
+  where
+    moves : (t : Termination) → (t ≡ Rest → ⊥) → moving t ≡ 1
+    moves Nothing k = refl
+    moves Rest k = absurd (k refl)
+    moves MaxTime k = refl
+    moves MaxImpacts k = refl
+
+pub sorted-rest-first : (px pz : Float) (l : List Entry) → Sorted (isBefore px pz) l → RestFirst l
+unfolding Sorted RestFirst
+sorted-rest-first px pz [] s = tt
+sorted-rest-first px pz
+    (e ∷ l) s = (
+      λ m. all-map (λ (f : Entry). isBefore px pz f e ≡ false) (λ (f : Entry). f .termination ≡ Rest → ⊥) l (after m) (s .0),
+      sorted-rest-first px pz l (s .1),
+    )
+  where
+    after : (e .termination ≡ Rest → ⊥) → (f : Entry) → isBefore px pz f e ≡ false → f .termination ≡ Rest → ⊥
+    after m f b r = subst T (sym (rest-before px pz f e r m) ∙ b) tt

@@ -16,9 +16,9 @@ use Rattle.board.specs.declared.Entry.{Entry}
 use Rattle.board.specs.declared.Board.{Board}
 use Rattle.board.specs.Rules.{keyOf, isBefore, near, holds, insert, answerOf}
 use Rattle.board.specs.Board.{listing, withListing, emptyEntry, emptyBoard, answered, given, newOf, withEntry, enterOf, placed, shots, placeOf}
-use Rattle.board.specs.Words.{All, Sorted, Distinct, sort, Near, after, kept, accepted}
+use Rattle.board.specs.Words.{All, Sorted, RestFirst, Distinct, sort, Near, after, kept, accepted}
 use Rattle.board.specs.Sorting.{insert-length, sort-permutes, sort-sorts, all-map, all-perm, distinct-perm}
-use Rattle.board.specs.Keys.{Finite, wider, key-finite, key-order}
+use Rattle.board.specs.Keys.{Finite, wider, key-finite, key-order, sorted-rest-first}
 use Rattle.board.specs.Tests.{Tested, far, repeated, full, taken, tested, is-near, near-is, held-not}
 
 -- ---- one call
@@ -137,7 +137,15 @@ made-calls px pz b (e ∷ calls) l m = made-calls px pz (enterOf b e .board) cal
 
 made-new : (px pz : Float) → Made px pz (emptyBoard px pz) []
 unfolding sort All Distinct
-made-new px pz = record { sound = record { places = length-replicate {A = Entry} 256 emptyEntry; most = omega arith }; pin-x = refl; pin-z = refl; sorted = refl; near = tt; distinct = tt }
+made-new px pz =
+    record {
+      sound = record { places = length-replicate {A = Entry} 256 emptyEntry; most = omega arith };
+      pin-x = refl;
+      pin-z = refl;
+      sorted = refl;
+      near = tt;
+      distinct = tt;
+    }
 
 -- ---- for every list of calls from a new board
 module _ (px pz : Float) (calls : List Entry) where
@@ -168,6 +176,10 @@ module _ (px pz : Float) (calls : List Entry) where
 
     pub listing-sorted : Sorted (isBefore px pz) (listing board)
     listing-sorted = rw listing-sorts (sort-sorts (Finite px pz) (isBefore px pz) (key-order px pz) entries keys-finite)
+
+    -- 02, paper 2: "Those that ended by time or by impacts are listed after every rest entry"
+    pub rest-first : RestFirst (listing board)
+    rest-first = sorted-rest-first px pz (listing board) listing-sorted
 
     pub no-nan-key : All (λ (e : Entry). T (finiteOf (keyOf px pz e))) (listing board)
     no-nan-key = all-perm (Finite px pz) (Permᴰ·symm listing-permutes) keys-finite

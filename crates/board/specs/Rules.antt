@@ -1,4 +1,4 @@
--- Definitions. The board's rules on the list of its entries (01, "Lists and the rest of the shop"; numbers 10, 25, 24): the order of a listing,
+-- Definitions. The board's rules on the list of its entries (01, "Lists and the rest of the shop"; 02, paper 2; numbers 10, 25, 24): the order of a listing,
 -- by which number an entry is turned back, and where an accepted one goes.
 use Prim.Native.Nat.{ℕ}
 use mathlib.Core.Bool.{Bool, true, false, not, _&&_, _||_, cond}
@@ -8,6 +8,8 @@ use lib.ListN.{length}
 use lib.Ieee.{Float, lt, eq}
 use Rattle.number.specs.Ops.{_⊕_, _⊖_, _⊗_, dec}
 use Rattle.number.specs.Number.{aboutOf}
+use Rattle.state.specs.declared.Termination.{Termination}
+use Rattle.state.specs.declared.Termination.the-variants.{Nothing, Rest, MaxTime, MaxImpacts}
 use Rattle.board.specs.declared.Entry.{Entry}
 
 -- 01: "Key: dx×dx + dz×dz, in doubles", from the pin
@@ -34,9 +36,17 @@ leastKey px pz = record { less = λ e f. lt (keyOf px pz e) (keyOf px pz f); lev
 abbrev pub lower : (Entry → ℕ) → Comparison
 lower n = record { less = λ e f. ltb (n e) (n f); level = λ e f. eqb (n e) (n f) }
 
+-- 0 at rest, 1 still moving: ended "by time or by impacts", one group
+unfoldable pub moving : Termination → ℕ
+moving Nothing = 1
+moving Rest = 0
+moving MaxTime = 1
+moving MaxImpacts = 1
+
+-- 02, paper 2: those still moving "are listed after every rest entry, in the same order among themselves";
 -- 01: "Least first, equal keys by lower shot number"
 unfoldable pub isBefore : Float → Float → Entry → Entry → Bool
-isBefore px pz = byFirst (leastKey px pz ∷ lower (λ e. e .shot) ∷ [])
+isBefore px pz = byFirst (lower (λ e. moving (e .termination)) ∷ leastKey px pz ∷ lower (λ e. e .shot) ∷ [])
 
 -- ---- entering
 

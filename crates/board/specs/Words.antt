@@ -6,6 +6,7 @@ use mathlib.Core.List.{List, [], _∷_}
 use lib.Dec.{T}
 use Rattle.number.specs.Ops.{dec}
 use Rattle.number.specs.Number.{aboutOf}
+use Rattle.state.specs.declared.Termination.the-variants.{Rest}
 use Rattle.board.specs.declared.Entry.{Entry}
 use Rattle.board.specs.declared.Board.{Board}
 use Rattle.board.specs.declared.Entered.{Entered}
@@ -28,6 +29,11 @@ Sorted p (e ∷ l) = All (λ (f : Entry). p f e ≡ false) l × Sorted p l
 unfoldable pub Distinct : List Entry → Type 0
 Distinct [] = Unit
 Distinct (e ∷ l) = All (λ (f : Entry). e .shot ≡ f .shot → ⊥) l × Distinct l
+
+-- after an entry that still moves none is at rest
+unfoldable pub RestFirst : List Entry → Type 0
+RestFirst [] = Unit
+RestFirst (e ∷ l) = ((e .termination ≡ Rest → ⊥) → All (λ (f : Entry). f .termination ≡ Rest → ⊥) l) × RestFirst l
 
 -- insertion sort
 unfoldable pub sort : (Entry → Entry → Bool) → List Entry → List Entry

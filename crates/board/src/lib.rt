@@ -1,15 +1,17 @@
-// The board: the balls of a league ranked by their distance from the pin.
+// The board: the balls of a league ranked by their distance from the pin, those at rest first.
 ghost use mathlib.Core.Path.{_≡_};
 ghost use Prim.Native.Nat.{_+_, _≤_, _<_};
 ghost use mathlib.Core.List.{_++_};
 ghost use lib.ListN.{length, take, drop};
-ghost use Rattle.board.specs.Rules.{keyOf, isBefore, insert, holds, answerOf};
+ghost use Rattle.board.specs.Rules.{keyOf, moving, isBefore, insert, holds, answerOf};
 ghost use Rattle.board.specs.Board.{listing, newOf, emptyBoard, withEntry, enterOf, placeOf};
 ghost use Rattle.board.specs.Inner.{Shows, placeIn, insertedAt};
+use state::Termination;
 
-// An entry: a shot's number and where its ball came to lie.
+// An entry: a shot's number, how its run ended, and where its ball was then.
 pub struct Entry {
     pub shot: u32,
+    pub termination: Termination,
     pub x: f64,
     pub z: f64,
 }
@@ -41,13 +43,29 @@ fn key(pin_x: f64, pin_z: f64, e: Entry) -> f64
     dx * dx + dz * dz
 }
 
+// 0 at rest, 1 still moving.
+fn moving(t: Termination) -> u32
+    ensures { λ r. ⌜ r ≡ moving t ⌝ }
+{
+    match t {
+        Termination::Nothing => 1,
+        Termination::Rest => 0,
+        Termination::MaxTime => 1,
+        Termination::MaxImpacts => 1,
+    }
+}
+
 // Whether e is listed before f.
 fn is_before(pin_x: f64, pin_z: f64, e: Entry, f: Entry) -> bool
     ensures { λ r. ⌜ r ≡ isBefore «pin_x» «pin_z» e f ⌝ }
 {
+    let s = e.termination;
+    let t = f.termination;
+    let m = moving(s);
+    let n = moving(t);
     let a = key(pin_x, pin_z, e);
     let b = key(pin_x, pin_z, f);
-    (a < b) | ((a == b) & (e.shot < f.shot))
+    (m < n) | ((m == n) & ((a < b) | ((a == b) & (e.shot < f.shot))))
 }
 
 // How many of the first `count` entries stand before e's place.
@@ -146,6 +164,7 @@ fn empty(pin_x: f64, pin_z: f64) -> Board
         count: 0,
         entries: [Entry {
             shot: 0,
+            termination: Termination::Nothing,
             x: 0.0,
             z: 0.0,
         }; 256],

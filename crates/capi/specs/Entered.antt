@@ -1,6 +1,6 @@
 -- Statements. Every run with answer 0 may be entered on a board (01, "Lists and the rest of the shop"): its final spot never meets 10. Assumes nothing.
 use Prim.Native.Nat.{ℕ, _<_}
-use mathlib.Core.Path.{_≡_, sym, subst}
+use mathlib.Core.Path.{_≡_, refl, sym, subst}
 use mathlib.Core.Bool.{false, _&&_}
 use mathlib.Core.List.{List}
 use lib.Dec.{T}
@@ -12,9 +12,11 @@ use Rattle.number.specs.Number.{aboutOf}
 use Rattle.state.specs.declared.BallState.{BallState}
 use Rattle.state.specs.State.{coordOk, vecOk, stateOk}
 use Rattle.shot.specs.declared.Shot.{Shot}
-use Rattle.ground.specs.Settle.{settleOf}
+use Rattle.state.specs.declared.Termination.{Termination}
+use Rattle.state.specs.declared.Termination.the-variants.{Nothing, Rest, MaxTime, MaxImpacts}
+use Rattle.ground.specs.Settle.{terminationNumber, settleOf}
 use Rattle.promises.specs.Finite.{settle-leaves}
-use Rattle.promises.specs.Promises.{answered}
+use Rattle.promises.specs.Promises.{answered, finished}
 use Rattle.ground.specs.declared.Settled.{Settled}
 use Rattle.board.specs.declared.Board.{Board}
 use Rattle.board.specs.declared.Entry.{Entry}
@@ -22,12 +24,15 @@ use Rattle.board.specs.Rules.{holds}
 use Rattle.board.specs.Board.{listing, enterOf}
 use Rattle.board.specs.Words.{Near}
 use Rattle.board.specs.Listing.{never-10, is-taken}
+use Rattle.layout.specs.Layout.{terminationOf}
+use Rattle.capi.specs.Boards.{Sent, isEnd, sentOf}
 
 -- a state that passes test 22 has a spot of magnitude at most 1,000,000
 spot-about : (s : BallState) → T (stateOk s) → T (aboutOf (dec 1000000 1) (s .pos .x)) × T (aboutOf (dec 1000000 1) (s .pos .z))
 unfolding stateOk vecOk coordOk
 spot-about s h =
-    let p = and-l (vecOk (s .pos)) (vecOk (s .vel) && vecOk (s .spin)) (and-r (coordOk (s .time)) (vecOk (s .pos) && (vecOk (s .vel) && vecOk (s .spin))) h) in (
+    let p = and-l (vecOk (s .pos)) (vecOk (s .vel) && vecOk (s .spin))
+    (and-r (coordOk (s .time)) (vecOk (s .pos) && (vecOk (s .vel) && vecOk (s .spin))) h) in (
       and-l (coordOk (s .pos .x)) (coordOk (s .pos .y) && coordOk (s .pos .z)) p,
       and-r (coordOk (s .pos .y)) (coordOk (s .pos .z))
           (and-r (coordOk (s .pos .x)) (coordOk (s .pos .y) && coordOk (s .pos .z)) p),
@@ -39,7 +44,7 @@ module _ (sheet : List ℕ) (shot : Shot) (cs ps : List Float) where
 
   -- the entry of the run under a shot number
   abbrev pub entryOf : ℕ → Entry
-  entryOf n = record { shot = n; x = run .rest .pos .x; z = run .rest .pos .z }
+  entryOf n = record { shot = n; termination = run .termination; x = run .rest .pos .x; z = run .rest .pos .z }
 
   run-near : run .answer ≡ 0 → (n : ℕ) → Near (entryOf n)
   run-near h n =
@@ -53,3 +58,25 @@ module _ (sheet : List ℕ) (shot : Shot) (cs ps : List Float) where
   -- and under a new number, on a board with room, it is
   pub is-entered : run .answer ≡ 0 → (b : Board) (n : ℕ) → holds n (listing b) ≡ false → length (listing b) < 256 → enterOf b (entryOf n) .answer ≡ 0
   is-entered h b n = is-taken b (entryOf n) (run-near h n)
+
+  -- what dimple_board_enter is handed for the run: the numbers of its result
+  abbrev pub sentRun : ℕ → Sent
+  sentRun n = record { shot = n; termination = terminationNumber (run .termination); x = run .rest .pos .x; z = run .rest .pos .z }
+
+  -- it takes them as that entry, and 102 never comes
+  pub sent-run : run .answer ≡ 0 → (b : Board) (n : ℕ) → sentOf b (sentRun n) ≡ enterOf b (entryOf n)
+  unfolding sentOf isEnd terminationOf terminationNumber
+  sent-run h b n = go (run .termination) (finished sheet shot cs ps h)
+    where
+      x : Float
+      x = run .rest .pos .x
+
+      z : Float
+      z = run .rest .pos .z
+
+      go : (t : Termination) → (t ≡ Nothing → ⊥)
+          → sentOf b (record { shot = n; termination = terminationNumber t; x = x; z = z }) ≡ enterOf b (record { shot = n; termination = t; x = x; z = z })
+      go Nothing k = absurd (k refl)
+      go Rest k = refl
+      go MaxTime k = refl
+      go MaxImpacts k = refl

@@ -3,8 +3,8 @@
 ghost use mathlib.Core.Path.{_≡_};
 ghost use lib.ListN.{length};
 ghost use Rattle.capi.specs.Doors.{reported, stepped, struck, door, settleDoor, settleDoorOf, stepDoorOf, impactDoorOf, heightDoorOf};
-ghost use Rattle.layout.specs.Layout.{boardLength};
-ghost use Rattle.capi.specs.Boards.{entered, newDoorOf, enterDoorOf, placeDoorOf};
+ghost use Rattle.layout.specs.Layout.{boardLength, boardAt};
+ghost use Rattle.capi.specs.Boards.{entered, sentOf, newDoorOf, enterDoorOf, placeDoorOf};
 use board::Board;
 use board::Entered;
 use board::Entry;
@@ -202,17 +202,41 @@ fn write_entered(board: &mut [f64], e: Entered) -> u32
     0
 }
 
+// One entry more on a board that the doubles are; 102 for a number that is no termination's.
+fn enter_sent(board: &mut [f64], shot: u32, termination: u32, x: f64, z: f64) -> u32
+    requires { ⌜ length (now board) ≡ boardLength ⌝ }
+    ensures { λ r. ⌜ door r (now (board .exit))
+        ≡ entered (sentOf (boardAt (now (board .entry))) (record { shot = shot; termination = termination; x = x; z = z })) (now (board .entry)) ⌝ }
+{
+    if (1 <= termination) & (termination <= 3) {
+        let b = layout::board_at(board);
+        let e = Entry {
+            shot,
+            termination: layout::termination_of(termination),
+            x,
+            z,
+        };
+        return write_entered(board, b.enter(e));
+    }
+    102
+}
+
 #[no_mangle]
-pub extern "C" fn dimple_board_enter(board: &mut [f64], shot: u32, x: f64, z: f64) -> u32
-    ensures { λ r. ⌜ door r (now (board .exit)) ≡ enterDoorOf (now (board .entry)) (record { shot = shot; x = x; z = z }) ⌝ }
+pub extern "C" fn dimple_board_enter(
+    board: &mut [f64],
+    shot: u32,
+    termination: u32,
+    x: f64,
+    z: f64,
+) -> u32
+    ensures { λ r. ⌜ door r (now (board .exit))
+        ≡ enterDoorOf (now (board .entry)) (record { shot = shot; termination = termination; x = x; z = z }) ⌝ }
 {
     if board.len() != layout::BOARD_LENGTH {
         return 100;
     }
     if layout::board_ok(board) {
-        let b = layout::board_at(board);
-        let e = Entry { shot, x, z };
-        return write_entered(board, b.enter(e));
+        return enter_sent(board, shot, termination, x, z);
     }
     101
 }

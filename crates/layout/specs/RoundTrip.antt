@@ -1,4 +1,4 @@
--- A board as 771 doubles is read back as it was, for every board that the functions of crates/board make. Assumes nothing.
+-- Statements. A board as doubles is read back as it was, for every board that the functions of crates/board make. Assumes nothing.
 use Prim.Native.Nat.{ℕ, zero, suc, _+_, _*_, _≤_, _<_}
 use native.Mathlib.Nat.{eq-or-lt-of-le}
 use native.Mathlib.Omega.{arith}
@@ -6,9 +6,9 @@ use mathlib.Core.Path.{_≡_, refl, ap, _∙_, sym}
 use mathlib.Core.Logic.{_⊎_, inl, inr}
 use mathlib.Core.Bool.{Bool, true, false, not, _&&_, cond}
 use mathlib.Core.List.{List, [], _∷_, _++_}
-use lib.Dec.{T, leb, le→leb, nleb→lt}
+use lib.Dec.{T, leb, ltb, le→leb, ltb→lt}
 use lib.ListN.{length, take, drop, getD, replicate, length-append, length-replicate, List·getD-append}
-use lib.Seq.{getD-append-add, take-suc, take-all}
+use lib.Seq.{getD-append-add, take-suc, take-all, getD-take, length-take-le}
 use lib.IntN.{pos}
 use lib.Ieee.{Float, nan, inf, fin, binary64, lt, le, eq, neg, round, ofInt, inFloat, toUnsigned}
 use lib.Ieee.Bits.{is-true}
@@ -19,6 +19,8 @@ use Rattle.number.specs.Ops.{dec}
 use Rattle.number.specs.Number.{aboutOf, withinOf, finiteOf}
 use Rattle.number.specs.Order.{eq-self, lt-le-trans, le-lt-trans}
 use Rattle.fields.specs.Fields.{wholeOf, doubleAt}
+use Rattle.state.specs.declared.Termination.{Termination}
+use Rattle.state.specs.declared.Termination.the-variants.{Nothing, Rest, MaxTime, MaxImpacts}
 use Rattle.board.specs.declared.Board.{Board}
 use Rattle.board.specs.declared.Entry.{Entry}
 use Rattle.board.specs.Rules.{isBefore, insert}
@@ -27,8 +29,9 @@ use Rattle.board.specs.Board.{listing, withListing, emptyEntry, emptyBoard, ans
 use Rattle.board.specs.Words.{All, Near}
 use Rattle.board.specs.Sorting.{all-insert}
 use Rattle.board.specs.Tests.{Tested, far, repeated, full, taken, tested, is-near}
-use Rattle.board.specs.Listing.{Sound, with-sound}
-use Rattle.layout.specs.Layout.{width, start, boardLength, natOf, isWhole, entryOk, entryAt, entriesOk, entriesAt, boardOk, boardAt, entryFields, entriesFields, boardFields}
+use Rattle.board.specs.Listing.{Sound, with-listing, with-sound}
+use Rattle.layout.specs.Layout.{width, start, boardLength, natOf, isWhole, numberOf, terminationOf, leastAt, entryOk, entryAt}
+use Rattle.layout.specs.Layout.{entriesOk, entriesAt, boardOk, boardAt, entryFields, entriesFields, boardFields}
 
 -- ---- a whole number that a u32 holds, as a double and back
 module _ (n : ℕ) (h : n ≤ 4294967295) where
@@ -70,9 +73,10 @@ module _ (n : ℕ) (h : n ≤ 4294967295) where
         (le→leb n 4294967295 h),
   )
 
-  pub whole-is-whole : (m : ℕ) → n ≤ m → isWhole m (wholeOf n) ≡ true
+  pub whole-is-whole : (l m : ℕ) → l ≤ n → n ≤ m → isWhole l m (wholeOf n) ≡ true
   unfolding isWhole
-  whole-is-whole m k = rw (nat-whole, is-true (eq (wholeOf n) (wholeOf n)) (eq-self (wholeOf n) whole-finite), is-true (leb n m) (le→leb n m k))
+  whole-is-whole l m j k = rw
+      (nat-whole, is-true (eq (wholeOf n) (wholeOf n)) (eq-self (wholeOf n) whole-finite), is-true (leb l n) (le→leb l n j), is-true (leb n m) (le→leb n m k))
 
 -- ---- the doubles of an entry
 fields-length : (es : List Entry) (n : ℕ) → length (entriesFields es n) ≡ width * n
@@ -113,11 +117,14 @@ module _ (b : Board) where
     shot-at : doubleAt (boardFields b) (start i) ≡ wholeOf (getD (b .entries) i none .shot)
     shot-at = double-at i 0 (start i) h (omega arith) (omega arith)
 
-    x-at : doubleAt (boardFields b) (start i + 1) ≡ getD (b .entries) i none .x
-    x-at = double-at i 1 (start i + 1) h (omega arith) (omega arith)
+    termination-at : doubleAt (boardFields b) (start i + 1) ≡ wholeOf (numberOf (getD (b .entries) i none .termination))
+    termination-at = double-at i 1 (start i + 1) h (omega arith) (omega arith)
 
-    z-at : doubleAt (boardFields b) (start i + 2) ≡ getD (b .entries) i none .z
-    z-at = double-at i 2 (start i + 2) h (omega arith) (omega arith)
+    x-at : doubleAt (boardFields b) (start i + 2) ≡ getD (b .entries) i none .x
+    x-at = double-at i 2 (start i + 2) h (omega arith) (omega arith)
+
+    z-at : doubleAt (boardFields b) (start i + 3) ≡ getD (b .entries) i none .z
+    z-at = double-at i 3 (start i + 3) h (omega arith) (omega arith)
 
 -- ---- boards
 
@@ -125,13 +132,32 @@ module _ (b : Board) where
 abbrev pub Kept : Entry → Type 0
 Kept e = (e .shot ≤ 4294967295) × Near e
 
--- what holds of every board that calls made: 256 places, a count of at most 256, a pin that passed test 9, and such an entry in each place, those
--- past the count too
+-- a run that ended: 1 to 3 is its termination's number
+abbrev pub Ended : Termination → Type 0
+Ended t = 1 ≤ numberOf t
+
+-- what holds of every board that calls made: 256 places, a count of at most 256, a pin that passed test 9, such an entry in each place, those past
+-- the count too, and on the listing entries of runs that ended
 pub record Held (b : Board) : Type 0 where
   pub sound : Sound b
   pub pin-x : T (aboutOf (dec 100000 1) (b .«pin_x»))
   pub pin-z : T (aboutOf (dec 100000 1) (b .«pin_z»))
   pub kept : All Kept (b .entries)
+  pub ended : All (λ (e : Entry). Ended (e .termination)) (listing b)
+
+number-most : (t : Termination) → numberOf t ≤ 3
+unfolding numberOf
+number-most Nothing = omega arith
+number-most Rest = omega arith
+number-most MaxTime = omega arith
+number-most MaxImpacts = omega arith
+
+pub number-back : (t : Termination) → terminationOf (numberOf t) ≡ t
+unfolding numberOf terminationOf
+number-back Nothing = refl
+number-back Rest = refl
+number-back MaxTime = refl
+number-back MaxImpacts = refl
 
 all-at : (P : Entry → Type 0) (l : List Entry) (i : ℕ) (d : Entry) → All P l → i < length l → P (getD l i d)
 unfolding All
@@ -145,18 +171,37 @@ module _ (b : Board) (h : Held b) where
 
   entry-back : (i : ℕ) → i < 256 → entryAt (boardFields b) (start i) ≡ getD (b .entries) i none
   unfolding entryAt
-  entry-back i l = rw (shot-at b i l, x-at b i l, z-at b i l, nat-whole _ (kept-at i l .0))
+  entry-back i l =
+      let t = getD (b .entries) i none .termination in
+      let m = number-most t in
+      rw (shot-at b i l, termination-at b i l, x-at b i l, z-at b i l, nat-whole _ (kept-at i l .0), nat-whole (numberOf t) (omega arith), number-back t)
 
-  entry-passes : (i : ℕ) → i < 256 → entryOk (boardFields b) (start i) ≡ true
+  least : (i : ℕ) → leastAt (b .count) i ≤ numberOf (getD (b .entries) i none .termination)
+  unfolding leastAt
+  least i = go (ltb i (b .count)) (ltb→lt i (b .count))
+    where
+      go : (t : Bool) → (T t → i < b .count) → cond t 1 0 ≤ numberOf (getD (b .entries) i none .termination)
+      go false f = omega arith
+      go true f =
+          let c = f tt in
+          let s = h .sound .places in
+          let m = h .sound .most in
+          let n : length (listing b) ≡ b .count = length-take-le (b .count) (b .entries) (omega arith) in
+          rw (getD-take (b .count) (b .entries) i none c) at (all-at (λ (e : Entry). Ended (e .termination)) (listing b) i none (h .ended) (omega arith))
+
+  entry-passes : (i : ℕ) → i < 256 → entryOk (boardFields b) (leastAt (b .count) i) (start i) ≡ true
   unfolding entryOk
   entry-passes i l =
       let k = kept-at i l in
       let e = getD (b .entries) i none in
+      let m = number-most (e .termination) in
       rw (
         shot-at b i l,
+        termination-at b i l,
         x-at b i l,
         z-at b i l,
-        whole-is-whole (e .shot) (k .0) 4294967295 (k .0),
+        whole-is-whole (e .shot) (k .0) 0 4294967295 (omega arith) (k .0),
+        whole-is-whole (numberOf (e .termination)) (omega arith) (leastAt (b .count) i) 3 (least i) m,
         is-true (aboutOf (dec 1000000 1) (e .x)) (k .1 .0),
         is-true (aboutOf (dec 1000000 1) (e .z)) (k .1 .1),
       )
@@ -168,7 +213,7 @@ module _ (b : Board) (h : Held b) where
       let s = h .sound .places in
       rw (entries-back n (omega arith), entry-back n (omega arith)) (sym (take-suc (b .entries) n none (omega arith)))
 
-  entries-pass : (n : ℕ) → n ≤ 256 → entriesOk (boardFields b) n ≡ true
+  entries-pass : (n : ℕ) → n ≤ 256 → entriesOk (boardFields b) (b .count) n ≡ true
   unfolding entriesOk
   entries-pass zero l = refl
   entries-pass (suc n) l = rw (entries-pass n (omega arith), entry-passes n (omega arith))
@@ -181,8 +226,8 @@ module _ (b : Board) (h : Held b) where
       rw (
         is-true (aboutOf (dec 100000 1) (b .«pin_x»)) (h .pin-x),
         is-true (aboutOf (dec 100000 1) (b .«pin_z»)) (h .pin-z),
-        whole-is-whole (b .count)
-            (omega arith) 256 m,
+        whole-is-whole (b .count) (omega arith) 0 256 (omega arith) m,
+        nat-whole (b .count) (omega arith),
         entries-pass 256 (omega arith),
       )
 
@@ -223,12 +268,14 @@ unfolding round neg le lt eq withinOf
 empty-kept = (omega arith, (tt, tt))
 
 empty-held : (px pz : Float) → T (aboutOf (dec 100000 1) px) → T (aboutOf (dec 100000 1) pz) → Held (emptyBoard px pz)
+unfolding All
 empty-held px pz h k =
     record {
       sound = record { places = length-replicate {A = Entry} 256 emptyEntry; most = omega arith };
       pin-x = h;
       pin-z = k;
       kept = all-replicate Kept 256 emptyEntry empty-kept;
+      ended = tt;
     }
 
 pin-of-0 : T (aboutOf (dec 100000 1) (dec 0 1))
@@ -246,9 +293,9 @@ new-held px pz = go (aboutOf (dec 100000 1) px) (aboutOf (dec 100000 1) pz) (λ 
     go true false f g = empty-held (dec 0 1) (dec 0 1) pin-of-0 pin-of-0
     go false q f g = empty-held (dec 0 1) (dec 0 1) pin-of-0 pin-of-0
 
-with-held : (b : Board) (e : Entry) → length (listing b) < 256 → Kept e → Held b → Held (withEntry b e)
+with-held : (b : Board) (e : Entry) → length (listing b) < 256 → Kept e → Ended (e .termination) → Held b → Held (withEntry b e)
 unfolding withEntry withListing
-with-held b e room k h =
+with-held b e room k t h =
     record {
       sound = with-sound b (h .sound) e room;
       pin-x = h .pin-x;
@@ -256,15 +303,17 @@ with-held b e room k h =
       kept =
           all-append Kept _ _ (all-insert Kept (isBefore (b .«pin_x») (b .«pin_z») e) e (listing b) k (all-take Kept (b .count) (b .entries) (h .kept)))
           (all-drop Kept (length (insert (isBefore (b .«pin_x») (b .«pin_z») e) e (listing b))) (b .entries) (h .kept));
+      ended = rw (with-listing b (h .sound) e room)
+          (all-insert (λ (f : Entry). Ended (f .termination)) (isBefore (b .«pin_x») (b .«pin_z») e) e (listing b) t (h .ended));
     }
 
--- with a shot number that a u32 holds, on every answer
-pub enter-held : (b : Board) (e : Entry) → e .shot ≤ 4294967295 → Held b → Held (enterOf b e .board)
+-- with a shot number that a u32 holds, of a run that ended, on every answer
+pub enter-held : (b : Board) (e : Entry) → e .shot ≤ 4294967295 → Ended (e .termination) → Held b → Held (enterOf b e .board)
 unfolding enterOf
-enter-held b e m h = go (tested (listing b) e)
+enter-held b e m t h = go (tested (listing b) e)
   where
     go : {n : ℕ} → Tested (listing b) e n → Held (given b e n .board)
     go (far p) = h
     go (repeated p q) = h
     go (full p q r) = h
-    go (taken p q r) = with-held b e r (m, is-near e p) h
+    go (taken p q r) = with-held b e r (m, is-near e p) t h

@@ -1,17 +1,19 @@
-// A board as doubles: the pin's x and z, the count, then 256 entries, each shot, x, z.
+// A board as doubles: the pin's x and z, the count, then 256 entries, each shot, termination, x, z.
 ghost use mathlib.Core.Path.{_≡_};
 ghost use Prim.Native.Nat.{_+_, _*_, _≤_};
 ghost use mathlib.Core.List.{_++_};
 ghost use lib.ListN.{length, take};
 ghost use Rattle.fields.specs.Fields.{written};
-ghost use Rattle.layout.specs.Layout.{width, start, boardLength, natOf, isWhole, entryOk, entryAt, entriesOk, entriesAt, boardOk, boardAt, entryFields, entriesFields, boardFields};
+ghost use Rattle.layout.specs.Layout.{width, boardLength, natOf, isWhole, numberOf, terminationOf, leastAt, entryOk, entryAt};
+ghost use Rattle.layout.specs.Layout.{entriesOk, entriesAt, boardOk, boardAt, entryFields, entriesFields, boardFields};
 use board::Board;
 use board::Entry;
+use state::Termination;
 
 // The doubles of an entry.
-const WIDTH: usize = 3;
+const WIDTH: usize = 4;
 // The doubles of a board.
-pub const BOARD_LENGTH: usize = 771;
+pub const BOARD_LENGTH: usize = 1027;
 
 // A double without its fraction, or 0 where that is no u32.
 fn nat_of(x: f64) -> u32
@@ -30,22 +32,61 @@ fn nat_of(x: f64) -> u32
     0
 }
 
-// Whether x is a whole number from 0 to `most`.
-fn is_whole(x: f64, most: u32) -> bool
-    ensures { λ r. ⌜ r ≡ isWhole most x ⌝ }
+// Whether x is a whole number from `least` to `most`.
+fn is_whole(x: f64, least: u32, most: u32) -> bool
+    ensures { λ r. ⌜ r ≡ isWhole least most x ⌝ }
 {
     let n = nat_of(x);
     let y = fields::whole(n as u64);
-    (x == y) & (n <= most)
+    (x == y) & ((least <= n) & (n <= most))
 }
 
-fn entry_ok(l: &[f64], o: usize) -> bool
-    requires { ⌜ o + width ≤ length (now l) ⌝ }
-    ensures { λ r. ⌜ r ≡ entryOk (now (l .entry)) o ⌝ }
+// 0 none, 1 rest, 2 time, 3 impacts.
+fn termination_number(t: Termination) -> u32
+    ensures { λ r. ⌜ r ≡ numberOf t ⌝ }
 {
-    is_whole(l[o], 4294967295)
-        & number::within(-1000000.0, 1000000.0, l[o + 1])
-        & number::within(-1000000.0, 1000000.0, l[o + 2])
+    match t {
+        Termination::Nothing => 0,
+        Termination::Rest => 1,
+        Termination::MaxTime => 2,
+        Termination::MaxImpacts => 3,
+    }
+}
+
+// And back; none for any other number.
+pub fn termination_of(n: u32) -> Termination
+    ensures { λ r. ⌜ r ≡ terminationOf n ⌝ }
+{
+    if n == 1 {
+        return Termination::Rest;
+    }
+    if n == 2 {
+        return Termination::MaxTime;
+    }
+    if n == 3 {
+        return Termination::MaxImpacts;
+    }
+    Termination::Nothing
+}
+
+// The least number of a termination at a place: an entry of the listing has ended, a place past it may be empty.
+fn least_at(count: u32, i: usize) -> u32
+    ensures { λ r. ⌜ r ≡ leastAt count «i» ⌝ }
+{
+    if i < count as usize {
+        return 1;
+    }
+    0
+}
+
+fn entry_ok(l: &[f64], least: u32, o: usize) -> bool
+    requires { ⌜ o + width ≤ length (now l) ⌝ }
+    ensures { λ r. ⌜ r ≡ entryOk (now (l .entry)) least o ⌝ }
+{
+    is_whole(l[o], 0, 4294967295)
+        & (is_whole(l[o + 1], least, 3)
+            & (number::within(-1000000.0, 1000000.0, l[o + 2])
+                & number::within(-1000000.0, 1000000.0, l[o + 3])))
 }
 
 fn entry_at(l: &[f64], o: usize) -> Entry
@@ -54,19 +95,20 @@ fn entry_at(l: &[f64], o: usize) -> Entry
 {
     Entry {
         shot: nat_of(l[o]),
-        x: l[o + 1],
-        z: l[o + 2],
+        termination: termination_of(nat_of(l[o + 1])),
+        x: l[o + 2],
+        z: l[o + 3],
     }
 }
 
-fn entries_ok(l: &[f64]) -> bool
+fn entries_ok(l: &[f64], count: u32) -> bool
     requires { ⌜ length (now l) ≡ boardLength ⌝ }
-    ensures { λ r. ⌜ r ≡ entriesOk (now (l .entry)) 256 ⌝ }
+    ensures { λ r. ⌜ r ≡ entriesOk (now (l .entry)) count 256 ⌝ }
 {
     let mut ok = true;
     let mut i = 0;
     while i < 256 {
-        ok = ok & entry_ok(l, 3 + WIDTH * i);
+        ok = ok & entry_ok(l, least_at(count, i), 3 + WIDTH * i);
         i += 1;
     }
     ok
@@ -78,6 +120,7 @@ fn entries_at(l: &[f64]) -> [Entry; 256]
 {
     let mut out = [Entry {
         shot: 0,
+        termination: Termination::Nothing,
         x: 0.0,
         z: 0.0,
     }; 256];
@@ -96,8 +139,8 @@ pub fn board_ok(l: &[f64]) -> bool
 {
     number::within(-100000.0, 100000.0, l[0])
         & number::within(-100000.0, 100000.0, l[1])
-        & is_whole(l[2], 256)
-        & entries_ok(l)
+        & is_whole(l[2], 0, 256)
+        & entries_ok(l, nat_of(l[2]))
 }
 
 pub fn board_at(l: &[f64]) -> Board
@@ -118,7 +161,13 @@ fn write_entry(out: &mut [f64], o: usize, e: Entry)
     requires { ⌜ o + width ≤ length (now out) ⌝ }
     ensures { λ _. ⌜ now (out .exit) ≡ written (now (out .entry)) o (entryFields e) ⌝ }
 {
-    let rec = [fields::whole(e.shot as u64), e.x, e.z];
+    let t = e.termination;
+    let rec = [
+        fields::whole(e.shot as u64),
+        fields::whole(termination_number(t) as u64),
+        e.x,
+        e.z,
+    ];
     fields::put(out, o, &rec);
 }
 

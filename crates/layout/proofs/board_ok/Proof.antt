@@ -7,17 +7,23 @@ use Rattle.layout.proofs.board_ok.Tie as tie
 
 returns : tie.Need-returns
 unfolding boardOk ofBits round neg
-returns c = rw (
-  c .before .before .before .before .before .within .ensures,
-  c .before .before .before .within2 .ensures,
-  c .before .is-whole .ensures,
-  c .entries-ok .ensures,
-)
+returns c =
+    let at-is-whole = c .before .before .before in
+    let at-within = at-is-whole .before .before .before .before in
+    rw (
+      at-within .within .ensures,
+      at-is-whole .before .before .within2 .ensures,
+      at-is-whole .is-whole .ensures,
+      c .entries-ok .ensures,
+      c .before .nat-of .ensures,
+    )
 
 pub board-ok-spec : {M : Type 1} → statement M
 board-ok-spec =
     tie.close
     (tie.spec
+    (λ c. search needs)
+    (λ c κs. search needs)
     (λ c. search needs)
     (λ c κs. search needs)
     (λ c. search needs)

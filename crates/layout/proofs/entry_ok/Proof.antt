@@ -1,4 +1,4 @@
--- `entry_ok` tests the three doubles of an entry.
+-- `entry_ok` tests the doubles of an entry.
 use lib.Ieee.{ofBits, round, neg}
 use borrow.Author.Needs.{needs}
 use Rattle.layout.specs.Layout.{entryOk}
@@ -7,12 +7,21 @@ use Rattle.layout.proofs.entry_ok.Tie as tie
 
 returns : tie.Need-returns
 unfolding entryOk ofBits round neg
-returns c = rw (c .before .before .before .before .is-whole .ensures, c .before .before .within .ensures, c .within2 .ensures)
+returns c = rw (
+  c .before .before .before .before .before .before .is-whole .ensures,
+  c .before .before .before .before .is-whole2 .ensures,
+  c .before .before .within .ensures,
+  c .within2 .ensures,
+)
 
 pub entry-ok-spec : {M : Type 1} → statement M
 entry-ok-spec =
     tie.close
     (tie.spec
+    (λ c. search needs)
+    (λ c. search needs)
+    (λ c κs. search needs)
+    (λ c. search needs)
     (λ c. search needs)
     (λ c. search needs)
     (λ c κs. search needs)

@@ -1,15 +1,25 @@
--- `write_entry` writes the three doubles of an entry.
+-- `write_entry` writes the doubles of an entry.
 use borrow.Author.Needs.{needs}
 use Rattle.layout.proofs.write_entry.Statement.{statement}
 use Rattle.layout.proofs.write_entry.Tie as tie
 
 returns : tie.Need-returns
-returns c = rw (c .before .before .put .ensures, c .before .before .before .before .before .whole .ensures)
+returns c =
+    let at-whole2 = c .before .before .before .before .before in
+    rw (
+      c .before .before .put .ensures,
+      at-whole2 .whole2 .ensures,
+      at-whole2 .before .termination-number .ensures,
+      at-whole2 .before .before .whole .ensures,
+    )
 
 pub write-entry-spec : {M : Type 1} → statement M
 write-entry-spec =
     tie.close
     (tie.spec
+    (λ c. search needs)
+    (λ c κs. search needs)
+    (λ c κs. search needs)
     (λ c. search needs)
     (λ c κs. search needs)
     (λ c. search needs)
