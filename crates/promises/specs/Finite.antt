@@ -35,8 +35,9 @@ use Rattle.ground.specs.Passed.{settle-passes}
 use Rattle.ground.specs.Settle.{Result, answerBy, howBy, restBy, reportOf, conditionsOf, firstLog, runOf, settleOf}
 use Rattle.promises.specs.Samples.{Sampled, sampled, number-finite}
 use Rattle.tally.specs.Triple.{Past, past, After, misses, of-run}
-use Rattle.promises.specs.Keeps.{Each, PointOf, ContactOf, Failed, Setting, Sound, Why, contacts-full, points-full, failed, limit-reached, Stops, at-ok}
-use Rattle.promises.specs.Parts.{Answer, Ended, train-keeps}
+use Rattle.promises.specs.Terms.{Answer, Each, PointOf, ContactOf, Failed}
+use Rattle.promises.specs.Keeps.{Setting, Sound, Why, contacts-full, points-full, failed, limit-reached, Stops, at-ok}
+use Rattle.promises.specs.Parts.{Ended, train-keeps}
 
 -- ---- the landing: 7 is narrower than test 22
 
@@ -81,6 +82,12 @@ module _ (sheet : List ℕ) (shot : Shot) (cs ps : List Float) where
 
   abbrev o : Oracle
   o = courseOf sheet
+
+  abbrev limit : ℕ
+  limit = shot .«step_limit»
+
+  abbrev landing : BallState
+  landing = shot .landing
 
   abbrev c : Conditions
   c = conditionsOf shot

@@ -1,4 +1,4 @@
--- Definitions. What every part of a settle keeps, word by word, in the logic of Triple: sound lists and counts, and the reasons of 20 to 23.
+-- Lemmas. What every part of a settle keeps, word by word, in the logic of Triple: sound lists and counts, and the reasons of 20 to 23.
 use Prim.Native.Nat.{ℕ, zero, suc, _+_, _≤_, _<_}
 use native.Mathlib.Omega.{arith}
 use mathlib.Core.Path.{_≡_, refl, ap, _∙_, sym}
@@ -6,30 +6,17 @@ use mathlib.Core.Bool.{Bool, true, false}
 use mathlib.Core.List.{List, [], _∷_, _++_}
 use lib.Ieee.{Float}
 use lib.ListN.{length, take, length-append}
-use Rattle.number.specs.Ops.{_⊕_}
 use Rattle.state.specs.declared.BallState.{BallState}
 use Rattle.state.specs.declared.Phase.{Phase}
-use Rattle.state.specs.State.{stateOk}
 use Rattle.surface.specs.declared.GroundSample.{GroundSample}
-use Rattle.aero.specs.Aero.{fromSpinVector}
-use Rattle.impact.specs.Impact.{impactOf}
-use Rattle.look.specs.Rect.{spotOk}
-use Rattle.look.specs.Tree.{Oracle, Spot}
+use Rattle.look.specs.Tree.{Tree, done, look as lookNode, step, Oracle, Spot, seen, run}
 use Rattle.records.specs.Records.{Records}
-use Rattle.tally.specs.Language.{M, Log, Lent, tested, withPoints, withContacts, pointOf, contactOf}
+use Rattle.tally.specs.Language.{M, Log, Lent, Outcome, goes, stops, Ran, tested, withPoints, withContacts, pointOf, contactOf}
 use Rattle.tally.specs.Language.{look, test, pushPoint, pushContact, mark, truncate, countStep, stepsLeft, when}
 use Rattle.tally.specs.declared.Conditions.{Conditions}
-use Rattle.arrival.specs.Arrival.{arcOf, placed}
-use Rattle.hop.specs.Hop.{stepArc, stepEnd}
-use Rattle.roll.specs.Roll.{stepOn, putDown}
-use Rattle.roll.specs.declared.Roll.{Roll}
-use Rattle.strike.specs.Strike.{struck, dropped}
-use Rattle.strike.specs.declared.Struck.{Struck}
-use Rattle.tally.specs.Triple.{Past, spot, Triple, t-look, t-test, t-point, t-contact, t-mark, t-truncate, t-step, t-left, t-when, t-know}
-
-abbrev pub Each : (List Float → Type 0) → Records → Type 0
-Each P [] = Unit
-Each P (r ∷ rs) = P r × Each P rs
+use Rattle.promises.specs.Terms.{Each, Ok, PointOf, SampleOf, ContactOf, GivenBy, Follows, Failed, of-spot, of-state}
+use Rattle.tally.specs.Triple.{Past, spot, After, reach, reaches, Triple}
+use Rattle.tally.specs.Triple.{t-look, t-test, t-point, t-contact, t-mark, t-truncate, t-step, t-left, t-when, t-know}
 
 each-more : (P : List Float → Type 0) (rs : Records) (r : List Float) → Each P rs → P r → Each P (rs ++ (r ∷ []))
 each-more P [] r h p = (p, tt)
@@ -66,60 +53,20 @@ module _ (P : List Float → Type 0) (n : ℕ) (l : Lent) where
   is-full : Listed P n l → l .room ≤ length (l .records) → length (l .records) ≡ n
   is-full h i = let a = h .few in let e = h .room in omega (arith, a, e, i)
 
--- passed test 22
-abbrev pub Ok : BallState → Type 0
-Ok s = stateOk s ≡ true
+-- ---- a part goes on with what its own run gives
+outcome-is : {A : Type 0} (o : Oracle) (t : Tree (Ran A)) (n : ℕ) (s f : List Spot) → reach o t n s f .outcome ≡ run o t .outcome
+unfolding reach run
+outcome-is o (done r) n s f = refl
+outcome-is o (lookNode x z c) n s f = outcome-is o (c (seen o x z)) n _ _
+outcome-is o (step t) n s f = outcome-is o t (suc n) s f
 
--- a point of a state that passed its test
-pub record PointOf (r : List Float) : Type 0 where
-  pub state : BallState
-  pub phase : Phase
-  pub ok : stateOk state ≡ true
-  pub is : r ≡ pointOf state phase
-
-module _ (o : Oracle) where
-  -- a sample of the course
-  pub record SampleOf (s : GroundSample) : Type 0 where
-    pub x : Float
-    pub z : Float
-    pub is : s ≡ o x z
-
-  -- a contact of two states that passed their tests, or the landing, and of a sample of the course
-  pub record ContactOf (r : List Float) : Type 0 where
-    pub arrival : BallState
-    pub sample : GroundSample
-    pub departure : BallState
-    pub came : stateOk arrival ≡ true
-    pub left : stateOk departure ≡ true
-    pub seen : SampleOf sample
-    pub is : r ≡ contactOf arrival sample departure
-
-  -- the course under a state
-  abbrev pub under : BallState → GroundSample
-  under s = o (s .pos .x) (s .pos .z)
-
-  module _ (c : Conditions) where
-    -- the sample under a state, and the state after its impact there
-    abbrev pub struckAt : BallState → Struck
-    struckAt s = struck (under s) (impactOf s (under s) (c .ball))
-
-    -- the states that are tested, s where g is the last that passed. 01: "the state after each impact, hop step, arrival, drop to the ground and
-    -- ground step"
-    pub data Follows (g s : BallState) : Type 0 where
-      impact : s ≡ impactOf g (under g) (c .ball) → Follows g s
-      hop-step : s ≡ stepEnd (stepArc c (fromSpinVector (g .spin)) g) g → Follows g s
-      -- tau into the hop step from f that ended at g
-      arrival : (f : BallState) (tau : Float) → g ≡ stepEnd (stepArc c (fromSpinVector (f .spin)) f) f
-          → (let a = arcOf (stepArc c (fromSpinVector (f .spin)) f) tau in s ≡ placed a (f .time ⊕ tau) (o (a .pos .x) (a .pos .z) .height) (f .spin))
-          → Follows g s
-      -- from the impact of f, which g itself follows
-      drop : (f : BallState) → s ≡ dropped c (struckAt f) → Follows g s
-      ground-step : (r : Roll) → r .state ≡ g → SampleOf (r .«at») → s ≡ putDown c r (stepOn c r) (under (stepOn c r .state)) → Follows g s
-
-    -- the test that failed: of a spot, the one that failed; or of a state that followed the last good one, each spot having passed
-    pub data Failed (off : List Spot) (good : BallState) : Type 0 where
-      of-spot : (p : Spot) → off ≡ p ∷ [] → spotOk (p .x) (p .z) ≡ false → Failed off good
-      of-state : off ≡ [] → (s : BallState) → Follows good s → stateOk s ≡ false → Failed off good
+module _ {o : Oracle} {A : Type 0} where
+  pub t-given : {P : Past → Type 0} {m : M A} {Q : A → Past → Type 0} {R : ℕ → Past → Type 0} → Triple o P m Q R → Triple o P m (λ a w. Q a w × GivenBy o m a) R
+  t-given {m = m} {Q} {R} t = record { all = λ w p. go w (reaches o m w .outcome) (reaches o m w .past) (outcome-is o (m (w .log)) _ _ _) (t .all w p) }
+    where
+      go : (w : Past) (x : Outcome A) (v : Past) → x ≡ run o (m (w .log)) .outcome → After Q R x v → After (λ a w. Q a w × GivenBy o m a) R x v
+      go w (goes a) v d q = (q, record { log = w .log; is = sym d })
+      go w (stops n) v d q = q
 
 -- what stays the same throughout a run: the course, the conditions, the records that each list has room for, the most contacts that it may push
 pub record Setting : Type 0 where
@@ -225,7 +172,8 @@ module _ {e : Setting} where
           good = t .good;
           on = t .on;
         })
-        (λ w t i. record { sound = t .sound; why = contacts-full (t .on) (is-full is (e .contacts) (w .log .contacts) (t .sound .contacts) i) })
+        (λ w t i. let all = is-full is (e .contacts) (w .log .contacts) (t .sound .contacts) i in
+        record { sound = t .sound; why = contacts-full (t .on) all })
 
     pub a-mark : Keeps e (At e F g) mark (λ _. At e F g)
     a-mark = t-mark (λ w a. a)

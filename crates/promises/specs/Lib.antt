@@ -1,4 +1,5 @@
 pub mod Demand
+pub mod Terms
 pub mod Keeps
 pub mod Parts
 pub mod Samples

@@ -2,14 +2,14 @@
 use Prim.Native.Nat.{ℕ, zero, suc, _+_, _-_, _≤_}
 use native.Mathlib.Omega.{arith}
 use mathlib.Core.Path.{_≡_, refl, ap, _∙_, sym}
-use mathlib.Core.Bool.{Bool, true, false, not}
+use mathlib.Core.Bool.{Bool, true, false, not, _&&_, cond}
 use mathlib.Core.Option.{Option, none, some}
 use lib.Dec.{eqb}
-use lib.Ieee.{Float, le, eq}
-use Rattle.number.specs.Ops.{_⊕_, dec}
+use lib.Ieee.{Float, le, eq, neg}
+use Rattle.number.specs.Ops.{_⊖_, _⊗_, dec}
 use Rattle.state.specs.declared.BallState.{BallState}
 use Rattle.surface.specs.declared.GroundSample.{GroundSample}
-use Rattle.aero.specs.Aero.{fromSpinVector}
+use Rattle.aero.specs.Aero.{radiusOf, fromSpinVector}
 use Rattle.aero.specs.declared.AeroParams.{AeroParams}
 use Rattle.state.specs.declared.Phase.{Phase}
 use Rattle.state.specs.declared.Phase.the-variants.{Hop as InHop}
@@ -22,13 +22,18 @@ use Rattle.search.specs.declared.RootStep.{RootStep}
 use Rattle.search.specs.declared.RootStep.the-variants.{Next, Found}
 use Rattle.tally.specs.Language.{M, inM, look, pushContact}
 use Rattle.tally.specs.declared.Conditions.{Conditions}
-use Rattle.arrival.specs.Arrival.{clearance, clearanceAt, arcOf, placed, subStep, crossingFrom, firstCrossing, endValue, crossingTime, hopArrival}
+use Rattle.arrival.specs.Arrival.{clearance, clearanceAt, subStep, crossingFrom, firstCrossing, endValue, crossingTime, hopArrival}
 use Rattle.arrival.specs.declared.Arc.{Arc}
 use Rattle.hop.specs.Hop.{stepArc, stepEnd, hopNext, hopStep, hopFrom, hop}
 use Rattle.hop.specs.declared.Flight.{Flight}
 use Rattle.hop.specs.declared.Way.{Way}
 use Rattle.hop.specs.declared.Way.the-variants.{Arrived, Late}
-use Rattle.roll.specs.Roll.{groundStep, heldOf, stepOn}
+use Rattle.vector.specs.Vec.{vsub, vscale, vdot, vlength, vnormalize, sameVec}
+use Rattle.impact.specs.Impact.{effectiveNormal, impactOf, struck as hitBy}
+use Rattle.contact.specs.Contact.{slipOf, ontoOf}
+use Rattle.rolling.specs.declared.Stepped.{Stepped}
+use Rattle.aero.specs.declared.BallModel.{BallModel}
+use Rattle.roll.specs.Roll.{groundStep, heldOf, stepOn, putDown}
 use Rattle.roll.specs.declared.Roll.{Roll}
 use Rattle.roll.specs.declared.Ending.{Ending}
 use Rattle.state.specs.declared.Termination.{Termination}
@@ -40,26 +45,10 @@ use Rattle.strike.specs.declared.Flown.{Flown}
 use Rattle.strike.specs.declared.Flown.the-variants.{Hop, Ground}
 use Rattle.train.specs.Train.{lastImpact, toGround, trainFrom, train}
 use Rattle.tally.specs.Triple.{Past, After, OnWith, Triple, t-before, t-after, t-bind, t-then, t-fact, t-know, t-of, t-if, t-pure, t-same, t-loop}
-use Rattle.promises.specs.Keeps.{SampleOf, Ok, struckAt, impact, hop-step, arrival, drop as dropping, ground-step}
-use Rattle.promises.specs.Keeps.{Setting, Keeps, At, Within, at-ok, at-frame}
+use Rattle.promises.specs.Terms.{Answer, SampleOf, Ok, under, GivenBy, struckAt, arcFrom, Grounded, at-once, after-hop}
+use Rattle.promises.specs.Terms.{impact, hop-step, arrival, drop as dropping, ground-step}
+use Rattle.promises.specs.Keeps.{Setting, Keeps, At, Within, at-ok, at-frame, t-given}
 use Rattle.promises.specs.Keeps.{a-look, a-test, a-point-own, a-contact, a-mark, a-truncate, a-when, a-step, a-left, a-limit}
-
--- the numbers that come with a termination: 0 where the run finished; 20 to 23, with none, where it stopped
-abbrev pub Answer : Termination → ℕ → Type 0
-Answer Nothing n = (20 ≤ n) × (n ≤ 23)
-Answer Rest n = n ≡ 0
-Answer MaxTime n = n ≡ 0
-Answer MaxImpacts n = n ≡ 0
-
--- P of the value, if there is one
-abbrev pub IfSome : {A : Type 0} → (A → Type 0) → Option A → Type 0
-IfSome P none = Unit
-IfSome P (some a) = P a
-
--- the arrival, tau into the arc, stands on the course
-pub record Landed (o : Oracle) (arc : Arc) (t : Float) (spin : DVec3) (s : BallState) : Type 0 where
-  pub tau : Float
-  pub is : s ≡ placed (arcOf arc tau) (t ⊕ tau) (o (arcOf arc tau .pos .x) (arcOf arc tau .pos .z) .height) spin
 
 -- ---- where a hop meets the ground: looks alone. What every look keeps, this keeps
 
@@ -67,13 +56,13 @@ module _ {o : Oracle} {P : Past → Type 0} {R : ℕ → Past → Type 0} (look-
   abbrev Looks : {A : Type 0} → M A → Type 0
   Looks m = Triple o P m (λ _. P) R
 
-  pub l-clearance : (p : DVec3) → Looks (clearance p)
+  pub l-clearance : (p : DVec3) → Triple o P (clearance p) (λ a w. P w × (a ≡ p .y ⊖ o (p .x) (p .z) .height)) R
   unfolding clearance
-  l-clearance p = t-then (look-keeps _ _) (λ s _. t-same)
+  l-clearance p = t-then (look-keeps _ _) (λ s h. t-pure (λ w a. (a, rw h)))
 
   l-clearanceAt : (arc : Arc) (tau : Float) → Looks (clearanceAt arc tau)
   unfolding clearanceAt
-  l-clearanceAt arc tau = l-clearance _
+  l-clearanceAt arc tau = t-after (λ a w h. h .0) (λ n w h. h) (l-clearance _)
 
   module _ (f : Float → M Float) (kf : (x : Float) → Looks (f x)) where
     l-subStep : (len fEnd : Float) (i : ℕ) (b : Bracket) → Looks (subStep f len fEnd i b)
@@ -103,12 +92,50 @@ module _ {o : Oracle} {P : Past → Type 0} {R : ℕ → Past → Type 0} (look-
   unfolding crossingTime findRoot
   l-crossingTime arc b = t-bind (l-endValue arc b) (λ x. t-then (look-keeps _ _) (λ s _. l-root _ (l-clearanceAt arc) _ _))
 
-  pub l-hopArrival : (arc : Arc) (t end : Float) (spin : DVec3) → Triple o P (hopArrival arc t end spin) (λ a w. P w × IfSome (Landed o arc t spin) a) R
+  pub l-hopArrival : (arc : Arc) (t end : Float) (spin : DVec3) → Looks (hopArrival arc t end spin)
   unfolding hopArrival firstCrossing
   l-hopArrival arc t end spin = t-bind (l-clearanceAt arc _) (λ x. t-bind (l-crossingFrom _ (l-clearanceAt arc) _ _ 8 1 _) (elim [
-    | none ↦ t-pure (λ w a. (a, tt))
-    | some b ↦ t-bind (l-crossingTime arc b) (λ tau. t-then (look-keeps _ _) (λ s h. t-pure (λ w a. (a, record { tau = tau; is = rw h }))))
+    | none ↦ t-same
+    | some b ↦ t-bind (l-crossingTime arc b) (λ tau. t-then (look-keeps _ _) (λ s _. t-same))
   ]))
+
+-- ---- what stays over the same spot
+
+pub record SameSpot (a b : BallState) : Type 0 where
+  pub x : a .pos .x ≡ b .pos .x
+  pub z : a .pos .z ≡ b .pos .z
+
+same : (s : BallState) → SameSpot s s
+same s = record { x = refl; z = refl }
+
+one-of : (P : BallState → Type 0) (b : Bool) (x y : BallState) → P x → P y → P (cond b x y)
+one-of P true x y p q = p
+one-of P false x y p q = q
+
+impact-stays : (s : BallState) (g : GroundSample) (ball : BallModel) → SameSpot (impactOf s g ball) s
+unfolding impactOf hitBy
+impact-stays s g ball =
+    let n = vnormalize (g .normal) in
+    let v = s .vel in
+    one-of (λ x. SameSpot x s) (le (neg (dec 1 1000000000000) ⊗ vlength v) (vdot v n)) _ _ (same s)
+    (one-of (λ x. SameSpot x s) (le (dec 0 1) (vdot v (effectiveNormal (g .surface) n v (vdot v n)))) _ _ (same s) (record { x = refl; z = refl }))
+
+drop-stays : (c : Conditions) (hit : Struck) → SameSpot (dropped c hit) (hit .out)
+unfolding dropped
+drop-stays c hit =
+    let n = vnormalize (hit .«at» .normal) in
+    let v = vsub (hit .out .vel) (vscale n (vdot (hit .out .vel) n)) in
+    one-of (λ x. SameSpot x (hit .out)) (le (vlength (slipOf v (hit .out .spin) n (radiusOf (c .ball)))) (c .physics .«roll_threshold»)) _ _
+    (record { x = refl; z = refl }) (record { x = refl; z = refl })
+
+put-stays : (c : Conditions) (r : Roll) (t : Stepped) (g : GroundSample) → SameSpot (putDown c r t g) (t .state)
+unfolding putDown ontoOf
+put-stays c r t g =
+    one-of (λ x. SameSpot x (t .state)) (sameVec (g .normal) (r .«at» .normal) && eq (t .state .pos .y) (g .height)) _ _
+    (same (t .state)) (record { x = refl; z = refl })
+
+same-under : (o : Oracle) (a b : BallState) → SameSpot a b → under o a ≡ under o b
+same-under o a b h = rw (h .x, h .z)
 
 module _ (e : Setting) where
   abbrev c : Conditions
@@ -120,9 +147,12 @@ module _ (e : Setting) where
   stateOf (Arrived b) = b
   stateOf (Late b) = b
 
-  -- the arc of the step from s
-  abbrev arcFrom : BallState → Arc
-  arcFrom s = stepArc c (fromSpinVector (s .spin)) s
+  -- the arc of the step from s, and the clearance at its end
+  abbrev arcOn : BallState → Arc
+  arcOn s = arcFrom (e .course) c s
+
+  abbrev endOn : BallState → Float
+  endOn b = b .pos .y ⊖ under (e .course) b .height
 
   -- the sample under s, and the state after its impact there
   abbrev StruckBy : BallState → Struck → Type 0
@@ -143,17 +173,17 @@ module _ (e : Setting) where
     abbrev Flew : Way → Past → Type 0
     Flew way = Only (stateOf way)
 
-    f-hopNext : (n : ℕ) (f : Flight) (b : BallState) → b ≡ stepEnd (arcFrom (f .state)) (f .state)
-        → (a : Option BallState) → IfSome (Landed (e .course) (arcFrom (f .state)) (f .state .time) (f .state .spin)) a
+    f-hopNext : (n : ℕ) (f : Flight) (b : BallState) → Ok (f .state) → b ≡ stepEnd (arcOn (f .state)) (f .state)
+        → (a : Option BallState) → GivenBy (e .course) (hopArrival (arcOn (f .state)) (f .state .time) (endOn b) (f .state .spin)) a
         → Keeps e (At e (Within e n G) b) (hopNext f b a) (OnWith (Flying (f .state .spin) n) Flew)
     unfolding hopNext stepEnd
-    f-hopNext n f b d (some s) l = t-then (a-test s (arrival (f .state) (l .tau) d (l .is))) (λ x _. t-pure (λ w a. at-frame (λ j k h. h .1) a))
-    f-hopNext n f b d none l = t-bind (a-when _ (a-point-own _)) (λ x. t-pure (λ w a. (a, ap (λ (s : BallState). s .spin) d)))
+    f-hopNext n f b ok d (some s) l = t-then (a-test s (arrival (f .state) ok d l)) (λ x _. t-pure (λ w a. at-frame (λ j k h. h .1) a))
+    f-hopNext n f b ok d none l = t-bind (a-when _ (a-point-own _)) (λ x. t-pure (λ w a. (a, ap (λ (s : BallState). s .spin) d)))
 
     f-hopStep : (spin : DVec3) (n : ℕ) (f : Flight) → Keeps e (Flying spin (suc n) f) (hopStep c (fromSpinVector spin) f) (OnWith (Flying spin n) Flew)
     unfolding hopStep
-    f-hopStep spin n f = t-fact (λ h. rw (← h) (t-bind (a-step n) (λ _. t-then (a-test _ (hop-step refl)) (λ b d.
-        t-bind (l-clearance a-look _) (λ end. t-then (l-hopArrival a-look _ _ _ _) (λ a l. f-hopNext n f b d a l))))))
+    f-hopStep spin n f = t-fact (λ h. rw (← h) (t-know (λ w. at-ok) (λ ok. t-bind (a-step n) (λ _. t-then (a-test _ (hop-step refl)) (λ b d.
+        t-then (l-clearance a-look _) (λ end v. t-then (t-given (l-hopArrival a-look _ _ _ _)) (λ a l. f-hopNext n f b ok d a (rw v at l))))))))
 
     f-hop : (start : BallState) → Keeps e (Only start) (hop c start) Flew
     unfolding hop hopFrom
@@ -163,7 +193,7 @@ module _ (e : Setting) where
     -- ---- the ground
 
     abbrev Rolling : ℕ → Roll → Past → Type 0
-    Rolling n r w = At e (Within e n G) (r .state) w × SampleOf (e .course) (r .«at»)
+    Rolling n r w = At e (Within e n G) (r .state) w × (r .«at» ≡ under (e .course) (r .state))
 
     -- the run is over, with its last state and how
     abbrev pub Over : Ending → Past → Type 0
@@ -175,14 +205,14 @@ module _ (e : Setting) where
 
     f-groundStep : (n : ℕ) (r : Roll) → Keeps e (Rolling (suc n) r) (groundStep c r) (OnWith (Rolling n) Over)
     unfolding groundStep
-    f-groundStep n r = t-fact (λ seen. t-bind (a-step n) (λ _. t-bind (a-when _ (a-point-own _)) (λ _. t-then (a-look _ _) (λ under h.
-        t-then (a-test _ (ground-step r refl seen (rw h))) (λ b _.
-        t-if (not (heldOf (stepOn c r) under)) (λ _. t-pure (λ w a. (a, record { x = _; z = _; is = h })))
+    f-groundStep n r = t-fact (λ on. t-bind (a-step n) (λ _. t-bind (a-when _ (a-point-own _)) (λ _. t-then (a-look _ _) (λ below h.
+        t-then (a-test _ (ground-step r refl on (rw h))) (λ b d. t-if (not (heldOf (stepOn c r) below))
+        (λ _. t-pure (λ w a. (a, h ∙ sym (ap (under (e .course)) d ∙ same-under (e .course) _ _ (put-stays c r (stepOn c r) below)))))
         (λ _. t-bind (a-point-own _) (λ _. t-pure (λ w a. (at-frame (λ j k h. h .1) a, refl)))))))))
 
-    f-ground : (state : BallState) (s : GroundSample) → SampleOf (e .course) s → Keeps e (Only state) (ground c state s) Over
+    f-ground : (state : BallState) (s : GroundSample) → s ≡ under (e .course) state → Keeps e (Only state) (ground c state s) Over
     unfolding ground groundFrom
-    f-ground state s seen = t-bind a-left (λ n. t-before (λ w a. (a, seen)) (t-loop _ _ _ Rolling Over
+    f-ground state s on = t-bind a-left (λ n. t-before (λ w a. (a, on)) (t-loop _ _ _ Rolling Over
         (λ n r. t-before (λ w a. a .0) (f-timeUp (Within e n G) (λ j k h. h .1) (r .state) _)) (λ r w a. a-limit w (a .0)) f-groundStep n _))
 
     -- ---- an impact
@@ -194,19 +224,21 @@ module _ (e : Setting) where
     unfolding strike
     f-strike s = t-then (a-look _ _) (λ g h. t-then (a-test _ (impact (rw h))) (λ b d. t-pure (λ w a. (a, rw (d, h)))))
 
-    abbrev Flown-so : Flown → Past → Type 0
-    Flown-so (Hop way) w = Flew way w
-    Flown-so Ground w = Only (w .log .good) w
+    -- flown; or on the ground, after an impact that the ball left as out
+    abbrev Flown-from : BallState → Flown → Past → Type 0
+    Flown-from out (Hop way) w = Flew way w
+    Flown-from out Ground w = Only (w .log .good) w × Grounded (e .course) c out (w .log .good)
 
-    own : (g : BallState) (w : Past) → Only g w → Only (w .log .good) w
-    own g w a = record { sound = a .sound; frame = a .frame; good = refl; on = a .on }
+    own : (out g : BallState) → Grounded (e .course) c out g → (w : Past) → Only g w → Only (w .log .good) w × Grounded (e .course) c out (w .log .good)
+    own out g d w a = (record { sound = a .sound; frame = a .frame; good = refl; on = a .on }, rw (a .good) d)
 
-    f-fly : (hops : Bool) (state : BallState) (hit : Struck) → Keeps e (Only (hit .out)) (fly c hops state hit) Flown-so
+    f-fly : (hops : Bool) (state : BallState) (hit : Struck) → Keeps e (Only (hit .out)) (fly c hops state hit) (Flown-from (hit .out))
     unfolding fly
-    f-fly hops state hit = t-if (not hops) (λ _. t-pure (own _)) (λ _. t-bind a-mark (λ m. t-bind (a-point-own _) (λ _. t-bind (f-hop _) (elim [
-      | Late b ↦ t-pure (λ w a. a)
-      | Arrived b ↦ t-if (diesOut c state hit b) (λ _. t-pure (λ w a. a)) (λ _. t-bind (a-truncate m) (λ _. t-pure (own b)))
-    ]))))
+    f-fly hops state hit = t-if (not hops) (λ _. t-pure (own _ _ (at-once refl))) (λ _.
+        t-bind a-mark (λ m. t-bind (a-point-own _) (λ _. t-then (t-given (f-hop _)) (elim [
+          | Late b ↦ λ l. t-pure (λ w a. a)
+          | Arrived b ↦ λ l. t-if (diesOut c state hit b) (λ _. t-pure (λ w a. a)) (λ _. t-bind (a-truncate m) (λ _. t-pure (own _ b (after-hop l))))
+        ]))))
 
     -- one contact more, of s
     abbrev More : (ℕ → Type 0) → Type 0
@@ -217,9 +249,10 @@ module _ (e : Setting) where
       f-contact b kb = a-contact s (hit .«at») b ok (sampled-at s hit h) kb (λ j k t. f k t)
 
     module _ {F : ℕ → Type 0} (f : More F) (s : BallState) (ok : Ok s) (hit : Struck) (h : StruckBy s hit) {g : BallState} where
-      f-drop : Keeps e (Only g) (drop c s hit) (At e (λ _. F))
+      f-drop : Grounded (e .course) c (hit .out) g → Keeps e (Only g) (drop c s hit) (λ b w. At e (λ _. F) b w × (b ≡ dropped c hit))
       unfolding drop
-      f-drop = t-then (a-test _ (dropping s (ap (dropped c) h))) (λ b _. t-bind (t-know (λ w. at-ok) (f-contact f s ok hit h b)) (λ _. t-pure (λ w a. a)))
+      f-drop d = t-then (a-test _ (dropping s ok (rw h at d) (ap (dropped c) h))) (λ b i.
+          t-bind (t-know (λ w. at-ok) (f-contact f s ok hit h b)) (λ _. t-pure (λ w a. (a, i))))
 
   -- ---- the train
 
@@ -237,9 +270,14 @@ module _ (e : Setting) where
   last n k h = (tt, omega (arith, h))
 
   module _ (s : BallState) (ok : Ok s) (hit : Struck) (h : StruckBy s hit) (n : ℕ) where
-    f-toGround : {g : BallState} → Keeps e (Only (Room (suc n)) g) (toGround c s hit) Ended
+    f-toGround : {g : BallState} → Grounded (e .course) c (hit .out) g → Keeps e (Only (Room (suc n)) g) (toGround c s hit) Ended
     unfolding toGround
-    f-toGround = t-bind (f-drop (Room (suc n)) (last n) s ok hit h) (λ b. f-ground (λ _. Unit {0}) b (hit .«at») (sampled-at s hit h))
+    f-toGround d = t-then (f-drop (Room (suc n)) (last n) s ok hit h d) (λ b i. f-ground (λ _. Unit {0}) b (hit .«at») (below b i))
+      where
+        below : (b : BallState) → b ≡ dropped c hit → hit .«at» ≡ under (e .course) b
+        below b i =
+            let o = e .course in
+            rw (i, same-under o (dropped c hit) (hit .out) (drop-stays c hit), h, same-under o _ _ (impact-stays s (under o s) (c .ball)))
 
     f-lastImpact : Keeps e (Only (Room (suc n)) (hit .out)) (lastImpact s hit) Ended
     unfolding lastImpact
@@ -248,10 +286,10 @@ module _ (e : Setting) where
   f-trainFrom : (n : ℕ) (s : BallState) → Keeps e (Only (Room (suc n)) s) (trainFrom c n s) Ended
   unfolding trainFrom
   f-trainFrom zero s = t-know (λ w. at-ok) (λ ok. t-then (f-strike (Room 1) s) (λ hit h.
-      t-if (not (rebounds c hit)) (λ _. f-toGround s ok hit h 0) (λ _. f-lastImpact s ok hit h 0)))
+      t-if (not (rebounds c hit)) (λ _. f-toGround s ok hit h 0 (at-once refl)) (λ _. f-lastImpact s ok hit h 0)))
   f-trainFrom (suc n) s = t-know (λ w. at-ok) (λ ok. t-then (f-strike (Room (suc (suc n))) s) (λ hit h.
       t-know (λ w. at-ok) (λ kb. t-bind (f-fly (Room (suc (suc n))) _ s hit) (elim [
-        | Ground ↦ t-of (λ w. w .log .good) (λ g. f-toGround s ok hit h (suc n))
+        | Ground ↦ t-of (λ w. w .log .good) (λ g. t-fact (λ d. f-toGround s ok hit h (suc n) d))
         | Hop way ↦ t-bind (f-contact (Room (suc (suc n))) (room (suc n)) s ok hit h _ kb) (λ _. after n way (f-trainFrom n))
       ]))))
     where

@@ -10,7 +10,7 @@ use lib.Ieee.{Float}
 use lib.ListN.{length}
 use borrow.Author.Tests.{leb-true, leb-false, le-leb}
 use Rattle.ground.specs.Settle.{Result, result, refusal, settleOf}
-use Rattle.input.specs.Input.{physicsAt, stepLimitAt, ballAt, densityAt, landingAt, sheetAt, settleInputOf}
+use Rattle.input.specs.Input.{shotAt, sheetAt, settleInputOf}
 use Rattle.promises.specs.Promises.{answers}
 
 -- 01, 12: "under 240 or over 34,048 bytes"
@@ -29,13 +29,13 @@ module _ (s : List ℕ) (cs ps : List Float) where
       go false b i j = rw i
 
   -- one of this size is settled
-  pub sized : Sized s → settleInputOf s cs ps ≡ settleOf (sheetAt s) (physicsAt s) (stepLimitAt s) (ballAt s) (densityAt s) (landingAt s) cs ps
+  pub sized : Sized s → settleInputOf s cs ps ≡ settleOf (sheetAt s) (shotAt s) cs ps
   unfolding settleInputOf
   sized h = rw (le-leb 240 (length s) (h .0), le-leb (length s) 34048 (h .1))
 
   -- and 12 is not among a settle's answers: so 12 comes exactly with an input of another size
   pub only-12 : settleInputOf s cs ps .settled .answer ≡ 12 → Sized s → ⊥
-  only-12 e h = no (answers (sheetAt s) (physicsAt s) (stepLimitAt s) (ballAt s) (densityAt s) (landingAt s) cs ps) (rw (sized h) at e)
+  only-12 e h = no (answers (sheetAt s) (shotAt s) cs ps) (rw (sized h) at e)
     where
       no : {n : ℕ} → (n ≤ 8) ⊎ ((20 ≤ n) × (n ≤ 23)) → n ≡ 12 → ⊥
       no (inl a) d = omega (arith, a, d)

@@ -34,8 +34,7 @@ use Rattle.tally.specs.Language.{stepsLeft}
 use Rattle.ground.specs.Passed.{refused-by, settle-sheet}
 use Rattle.ground.specs.Settle.{Result, noState, reportOf, conditionsOf, runOf, settleOf}
 use Rattle.tally.specs.Triple.{misses}
-use Rattle.promises.specs.Keeps.{PointOf, ContactOf, Failed}
-use Rattle.promises.specs.Parts.{Answer}
+use Rattle.promises.specs.Terms.{Answer, PointOf, ContactOf, Failed}
 use Rattle.promises.specs.Finite.{Finite, StateFinite, state-finite, point-finite, contact-finite, finite-shown, settle-leaves}
 
 -- finite, and of magnitude at most 1,000,000
@@ -103,7 +102,7 @@ module _ (sheet : List ℕ) (shot : Shot) (cs ps : List Float) where
   only-22 h = settle-leaves sheet shot cs ps (stopped 22 (omega arith) h) .failed h
 
   -- 23: "step_limit steps taken and one more due". 23 comes only with step_limit steps made
-  pub only-23 : got .settled .answer ≡ 23 → got .settled .steps ≡ limit
+  pub only-23 : got .settled .answer ≡ 23 → got .settled .steps ≡ shot .«step_limit»
   only-23 h = settle-leaves sheet shot cs ps (stopped 23 (omega arith) h) .limit-reached h
 
   -- 01: "zero counts, all-zero (+0) final state and rectangle; lists untouched"
@@ -179,20 +178,26 @@ module _ (sheet : List ℕ) (shot : Shot) (cs ps : List Float) where
   pub steps-made : number ≡ 0 → got .settled .steps ≡ stepsOf (courseOf sheet) (runOf shot (length cs) (length ps))
   steps-made h = settle-leaves sheet shot cs ps h .made
 
--- the settings with n for max_impacts
-abbrev pub allowing : ℕ → GroundPhysics → GroundPhysics
-allowing n p = record {
-  dt = p .dt;
-  «stop_speed» = p .«stop_speed»;
-  «roll_threshold» = p .«roll_threshold»;
-  «min_hop_height» = p .«min_hop_height»;
-  «max_impacts» = n;
-  «max_time» = p .«max_time»;
+-- the shot with n for max_impacts
+abbrev pub allowing : ℕ → Shot → Shot
+allowing n s = record {
+  physics = record {
+    dt = s .physics .dt;
+    «stop_speed» = s .physics .«stop_speed»;
+    «roll_threshold» = s .physics .«roll_threshold»;
+    «min_hop_height» = s .physics .«min_hop_height»;
+    «max_impacts» = n;
+    «max_time» = s .physics .«max_time»;
+  };
+  «step_limit» = s .«step_limit»;
+  ball = s .ball;
+  «air_density» = s .«air_density»;
+  landing = s .landing;
 }
 
 -- 01: "max_impacts 0 acts as 1": of every call, refused ones too
 pub zero-as-one : (sheet : List ℕ) (shot : Shot) (cs ps : List Float)
-    → settleOf sheet (allowing 0 p) limit ball density landing cs ps ≡ settleOf sheet (allowing 1 p) limit ball density landing cs ps
+    → settleOf sheet (allowing 0 shot) cs ps ≡ settleOf sheet (allowing 1 shot) cs ps
 unfolding settleOf refusalOf inputTest physicsOk runOf conditionsOf train trainFrom strike rebounds
     toGround drop dropped ground groundFrom groundStep stepOn putDown stepsLeft
 zero-as-one sheet shot cs ps = refl

@@ -1,0 +1,111 @@
+-- Definitions. The terms of the promises: the numbers that come with a termination, a point of a tested state, a contact of two such states and a
+-- sample of the course, the states that a settle tests, the test that failed.
+use Prim.Native.Nat.{ℕ, _≤_}
+use mathlib.Core.Path.{_≡_}
+use mathlib.Core.Bool.{true, false}
+use mathlib.Core.List.{List, [], _∷_}
+use mathlib.Core.Option.{some}
+use lib.Ieee.{Float}
+use Rattle.number.specs.Ops.{_⊖_}
+use Rattle.state.specs.declared.BallState.{BallState}
+use Rattle.state.specs.declared.Phase.{Phase}
+use Rattle.state.specs.declared.Termination.{Termination}
+use Rattle.state.specs.declared.Termination.the-variants.{Nothing, Rest, MaxTime, MaxImpacts}
+use Rattle.state.specs.State.{stateOk}
+use Rattle.surface.specs.declared.GroundSample.{GroundSample}
+use Rattle.aero.specs.Aero.{fromSpinVector}
+use Rattle.impact.specs.Impact.{impactOf}
+use Rattle.look.specs.Rect.{spotOk}
+use Rattle.look.specs.Tree.{Oracle, Spot, run}
+use Rattle.records.specs.Records.{Records}
+use Rattle.tally.specs.Language.{M, Log, goes, pointOf, contactOf}
+use Rattle.tally.specs.declared.Conditions.{Conditions}
+use Rattle.arrival.specs.Arrival.{hopArrival}
+use Rattle.arrival.specs.declared.Arc.{Arc}
+use Rattle.hop.specs.Hop.{stepArc, stepEnd, hop}
+use Rattle.hop.specs.declared.Way.the-variants.{Arrived}
+use Rattle.roll.specs.Roll.{stepOn, putDown}
+use Rattle.roll.specs.declared.Roll.{Roll}
+use Rattle.strike.specs.Strike.{struck, dropped}
+use Rattle.strike.specs.declared.Struck.{Struck}
+
+-- the numbers that come with a termination: 0 where the run finished; 20 to 23, with none, where it stopped
+abbrev pub Answer : Termination → ℕ → Type 0
+Answer Nothing n = (20 ≤ n) × (n ≤ 23)
+Answer Rest n = n ≡ 0
+Answer MaxTime n = n ≡ 0
+Answer MaxImpacts n = n ≡ 0
+
+-- P of each record
+abbrev pub Each : (List Float → Type 0) → Records → Type 0
+Each P [] = Unit
+Each P (r ∷ rs) = P r × Each P rs
+
+-- passed test 22
+abbrev pub Ok : BallState → Type 0
+Ok s = stateOk s ≡ true
+
+-- a point of a state that passed its test
+pub record PointOf (r : List Float) : Type 0 where
+  pub state : BallState
+  pub phase : Phase
+  pub ok : stateOk state ≡ true
+  pub is : r ≡ pointOf state phase
+
+module _ (o : Oracle) where
+  -- a sample of the course
+  pub record SampleOf (s : GroundSample) : Type 0 where
+    pub x : Float
+    pub z : Float
+    pub is : s ≡ o x z
+
+  -- a contact of two states that passed their tests, or the landing, and of a sample of the course
+  pub record ContactOf (r : List Float) : Type 0 where
+    pub arrival : BallState
+    pub sample : GroundSample
+    pub departure : BallState
+    pub came : stateOk arrival ≡ true
+    pub left : stateOk departure ≡ true
+    pub seen : SampleOf sample
+    pub is : r ≡ contactOf arrival sample departure
+
+  -- the course under a state
+  abbrev pub under : BallState → GroundSample
+  under s = o (s .pos .x) (s .pos .z)
+
+  -- a is what the part m gives, from some log
+  pub record GivenBy {A : Type 0} (m : M A) (a : A) : Type 0 where
+    pub log : Log
+    pub is : run o (m log) .outcome ≡ goes a
+
+  module _ (c : Conditions) where
+    -- the sample under a state, and the state after its impact there
+    abbrev pub struckAt : BallState → Struck
+    struckAt s = struck (under s) (impactOf s (under s) (c .ball))
+
+    -- the arc of the hop step from a state
+    abbrev pub arcFrom : BallState → Arc
+    arcFrom s = stepArc c (fromSpinVector (s .spin)) s
+
+    -- the last state that passed, g, where a ball drops to the ground after an impact that it left as out: out itself, or the arrival of the hop from out
+    pub data Grounded (out g : BallState) : Type 0 where
+      at-once : g ≡ out → Grounded out g
+      after-hop : GivenBy (hop c out) (Arrived g) → Grounded out g
+
+    -- the states that are tested: s, where g is the last that passed. 01: "the state after each impact, hop step, arrival, drop to the ground and
+    -- ground step"
+    pub data Follows (g s : BallState) : Type 0 where
+      impact : s ≡ impactOf g (under g) (c .ball) → Follows g s
+      hop-step : s ≡ stepEnd (arcFrom g) g → Follows g s
+      -- the arrival in the hop step from f, which ended at g
+      arrival : (f : BallState) → Ok f → g ≡ stepEnd (arcFrom f) f
+          → GivenBy (hopArrival (arcFrom f) (f .time) (g .pos .y ⊖ under g .height) (f .spin)) (some s) → Follows g s
+      -- the drop after the impact of f
+      drop : (f : BallState) → Ok f → Grounded (struckAt f .out) g → s ≡ dropped c (struckAt f) → Follows g s
+      -- the ground step from g, on the ground under it
+      ground-step : (r : Roll) → r .state ≡ g → r .«at» ≡ under g → s ≡ putDown c r (stepOn c r) (under (stepOn c r .state)) → Follows g s
+
+    -- the test that failed: of a spot, the one that failed; or of a state that followed the last good one, each spot having passed
+    pub data Failed (off : List Spot) (good : BallState) : Type 0 where
+      of-spot : (p : Spot) → off ≡ p ∷ [] → spotOk (p .x) (p .z) ≡ false → Failed off good
+      of-state : off ≡ [] → (s : BallState) → Follows good s → stateOk s ≡ false → Failed off good
