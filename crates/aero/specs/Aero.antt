@@ -1,4 +1,4 @@
--- The ball and its acceleration in the air, in the Rust's order of operations (aero.rs).
+-- Definitions. The ball and its acceleration in the air, in the Rust's order of operations (aero.rs).
 -- Assumes nothing.
 use lib.Ieee.{Float, neg, lt}
 use mathlib.Core.Bool.{cond}
@@ -48,10 +48,17 @@ radiusOf b = b .«diameter_m» ⊘ dec 2 1
 unfoldable pub areaOf : BallModel → Float
 areaOf b = dec 314159265358979323846264338327950288 100000000000000000000000000000000000 ⊗ radiusOf b ⊗ radiusOf b
 
--- BallModel::cd_cl, AIR_DYNAMIC_VISCOSITY being 1.81e-5
+-- AIR_DYNAMIC_VISCOSITY, DEFAULT_SPIN_DECAY
+abbrev pub airDynamicViscosity : Float
+airDynamicViscosity = dec 181 10000000
+
+abbrev pub defaultSpinDecay : Float
+defaultSpinDecay = dec 4 100
+
+-- BallModel::cd_cl
 unfoldable pub cdClOf : BallModel → Float → Float → Float → CdCl
 cdClOf b spinRate speed density =
-    let re = density ⊗ speed ⊗ b .«diameter_m» ⊘ dec 181 10000000 in
+    let re = density ⊗ speed ⊗ b .«diameter_m» ⊘ airDynamicViscosity in
     let sr = absOf (spinRate ⊗ radiusOf b ⊘ speed) in
     let sigma = dec 1 1 ⊘ (dec 1 1 ⊕ expOf (neg (re ⊖ b .«re_crit») ⊘ b .«re_width»)) in
     let cdBase = b .«cd_sub» ⊕ (b .«cd_super» ⊖ b .«cd_sub») ⊗ sigma in
@@ -63,14 +70,14 @@ cdClOf b spinRate speed density =
       cl = clMax ⊗ (dec 1 1 ⊖ expOf (neg sr ⊘ b .«sr_scale»));
     })
 
--- AeroParams::from_spin_vector, DEFAULT_SPIN_DECAY being 0.04
+-- AeroParams::from_spin_vector
 unfoldable pub fromSpinVector : DVec3 → AeroParams
 fromSpinVector omega =
     let rate = vlength omega in
     record {
       «spin_axis» = cond (lt tiny rate) (vdivs omega rate) unitZ;
       «spin_rate» = rate;
-      «spin_decay» = dec 4 100;
+      «spin_decay» = defaultSpinDecay;
     }
 
 -- BallModel::acceleration, the Magnus lift, of the magnitude lift where there is any

@@ -1,4 +1,4 @@
--- One ball-turf impact, in the Rust's order of operations (ground.rs, fn impact). Each part is named in that order.
+-- Definitions. One ball-turf impact, in the Rust's order of operations (ground.rs, fn impact). Each part is named in that order.
 -- Assumes nothing.
 use lib.Ieee.{Float, neg, lt, le}
 use mathlib.Core.Bool.{cond}
@@ -57,7 +57,11 @@ struck state surface radius k n nEff vNEff =
       spin = pivoted (vadd (state .spin) (vdivs (vcross r jTVec) inertia)) n (surface .pivot ⊗ jN ⊘ inertia);
     }
 
--- fn impact: the given state if v·n ≥ -GRAZING × |v|, and if v·n_eff ≥ 0; GRAZING is 1e-12
+-- GRAZING
+abbrev pub grazing : Float
+grazing = dec 1 1000000000000
+
+-- fn impact: the given state if v·n ≥ -GRAZING × |v|, and if v·n_eff ≥ 0
 unfoldable pub impactOf : BallState → GroundSample → BallModel → BallState
 impactOf state at ball =
     let n = vnormalize (at .normal) in
@@ -65,6 +69,6 @@ impactOf state at ball =
     let vDotN = vdot v n in
     let nEff = effectiveNormal (at .surface) n v vDotN in
     let vNEff = vdot v nEff in
-    cond (le (neg (dec 1 1000000000000) ⊗ vlength v) vDotN) state
+    cond (le (neg grazing ⊗ vlength v) vDotN) state
     (cond (le (dec 0 1) vNEff) state
     (struck state (at .surface) (radiusOf ball) (ball .«inertia_factor») n nEff vNEff))

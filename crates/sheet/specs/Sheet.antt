@@ -1,5 +1,4 @@
--- The course sheet (01, "Course sheet"): its bytes, the tests 1 to 3, and what a look at a spot finds.
--- Definitions only.
+-- Definitions. The course sheet (01, "Course sheet"): its bytes, the tests 1 to 3, and what a look at a spot finds.
 use Prim.Native.Nat.{ℕ, zero, suc, _+_, _*_}
 use mathlib.Core.Path.{_≡_}
 use mathlib.Core.List.{List}
@@ -18,12 +17,18 @@ use Rattle.surface.specs.declared.GroundSample.{GroundSample}
 
 -- ---- fields
 
--- surface count S, surface offset, patch count P, patch offset
+-- 01: "Four u32: surface count S .., surface offset .., patch count P .., patch offset"
 abbrev pub surfaces : List ℕ → ℕ
 surfaces s = little 4 s 0
 
+abbrev pub surfaceOffset : List ℕ → ℕ
+surfaceOffset s = little 4 s 4
+
 abbrev pub patches : List ℕ → ℕ
 patches s = little 4 s 8
+
+abbrev pub patchOffset : List ℕ → ℕ
+patchOffset s = little 4 s 12
 
 -- Field j of record i, as a u64 and as an f64. The records 0 to S − 1 are the surfaces, and record S + k is patch k.
 abbrev pub field : List ℕ → ℕ → ℕ → ℕ
@@ -37,8 +42,8 @@ real s i j = ofBits binary64 (field s i j)
 -- 01: "surface count S (1 to 16), surface offset (16), patch count P (0 to 512), patch offset (16 + 64S). Length is exactly 16 + 64(S+P)"
 unfoldable pub headerOk : List ℕ → Bool
 headerOk s =
-    leb 1 (surfaces s) && leb (surfaces s) 16 && eqb (little 4 s 4) 16 && leb (patches s) 512
-    && eqb (little 4 s 12) (16 + 64 * surfaces s) && eqb (length s) (16 + 64 * (surfaces s + patches s))
+    leb 1 (surfaces s) && leb (surfaces s) 16 && eqb (surfaceOffset s) 16 && leb (patches s) 512
+    && eqb (patchOffset s) (16 + 64 * surfaces s) && eqb (length s) (16 + 64 * (surfaces s + patches s))
 
 -- restitution kind 0 constant, with e, or 1 Penner
 unfoldable pub restitutionOk : ℕ → Float → Bool

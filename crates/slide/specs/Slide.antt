@@ -1,4 +1,4 @@
--- A ball that slides on one ground sample: ground.rs, Patch and fn slide. Assumes nothing.
+-- Definitions. A ball that slides on one ground sample: ground.rs, Patch and fn slide. Assumes nothing.
 use lib.Ieee.{Float, inf, neg, lt, le}
 use mathlib.Core.Bool.{true, false, cond}
 use Rattle.number.specs.Ops.{_⊕_, _⊖_, _⊗_, _⊘_, dec}
@@ -15,6 +15,10 @@ use Rattle.slide.specs.declared.Slid.{Slid}
 -- `SLIP_EPS`
 abbrev pub slipEps : Float
 slipEps = dec 1 1000000000
+
+-- `MIN_SWITCH_SLIP`
+abbrev pub minSwitchSlip : Float
+minSwitchSlip = dec 1 1000000
 
 -- `-self.friction * u_hat + self.g_t`
 unfoldable pub slideAccel : Patch → DVec3 → DVec3
@@ -119,7 +123,7 @@ slideOnSlope p start t dt uHat₀ s₀ threshold =
 -- fn slide
 unfoldable pub slideOf : Patch → Motion → Float → Float → Float → Slid
 slideOf p start t dt rollThreshold =
-    let threshold = maxOf rollThreshold (dec 1 1000000) in
+    let threshold = maxOf rollThreshold minSwitchSlip in
     let u₀ = patchSlip p start in
     let s₀ = vlength u₀ in
     cond (sameVec (p .«g_t») zero3) (finishOf p start t dt)

@@ -1,4 +1,5 @@
--- `Restitution::coefficient_at` against Penner 2002: near his polynomial up to 20 m/s, and 0.120 above. Assumes nothing.
+-- Statements. `Restitution::coefficient_at` against Penner 2002: near his polynomial up to 20 m/s, and 0.120 above. At a NaN nothing is stated.
+-- Assumes nothing.
 use mathlib.Core.Path.{_≡_, refl, subst}
 use mathlib.Core.Bool.{Bool, true, false, cond}
 use Prim.Native.Nat.{ℕ, _*_, _≤_}

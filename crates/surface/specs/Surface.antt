@@ -1,4 +1,4 @@
--- Surfaces of the ground and what their laws give, in the Rust's order of operations (ground.rs).
+-- Definitions. Surfaces of the ground and what their laws give, in the Rust's order of operations (ground.rs).
 -- Assumes nothing.
 use lib.Ieee.{Float, le}
 use mathlib.Core.Bool.{cond}
@@ -65,15 +65,25 @@ pennerThetaC = dec 154 10 ⊗ pi ⊘ dec 180 1
 unfoldable pub pennerRefAngle : Float
 pennerRefAngle = dec 444 10 ⊗ pi ⊘ dec 180 1
 
+-- PENNER_REF_SPEED, MIN_TILT_SPEED, TILT_ONSET_SPEED
+abbrev pub pennerRefSpeed : Float
+pennerRefSpeed = dec 186 10
+
+abbrev pub minTiltSpeed : Float
+minTiltSpeed = dec 1 100
+
+abbrev pub tiltOnsetSpeed : Float
+tiltOnsetSpeed = dec 2 1
+
 -- Surface::contact_angle at the tangential speed vT and the normal approach speed vN, past the test of vT
 unfoldable pub tiltedAngle : Surface → Float → Float → Float
 tiltedAngle s vT vN =
     let speed = hypotOf vT vN in
     let incidence = arctangentOf vT vN in
-    let thetaC = pennerThetaC ⊗ (speed ⊘ dec 186 10) ⊗ (incidence ⊘ pennerRefAngle) in
-    let fade = minOf (vN ⊘ dec 2 1) (dec 1 1) in
+    let thetaC = pennerThetaC ⊗ (speed ⊘ pennerRefSpeed) ⊗ (incidence ⊘ pennerRefAngle) in
+    let fade = minOf (vN ⊘ tiltOnsetSpeed) (dec 1 1) in
     minOf (s .compliance ⊗ thetaC ⊗ fade) incidence
 
 -- Surface::contact_angle: 0 for a tangential speed of at most MIN_TILT_SPEED
 unfoldable pub contactAngle : Surface → Float → Float → Float
-contactAngle s vT vN = cond (le vT (dec 1 100)) (dec 0 1) (tiltedAngle s vT vN)
+contactAngle s vT vN = cond (le vT minTiltSpeed) (dec 0 1) (tiltedAngle s vT vN)

@@ -1,4 +1,4 @@
--- Vectors of three doubles: what each operation of `DVec3` gives, in the order of its operations (document 01, Arithmetic).
+-- Definitions. Vectors of three doubles: what each operation of `DVec3` gives, in the order of its operations (document 01, Arithmetic).
 -- Assumes nothing.
 use lib.Ieee.{Float, neg, lt, eq}
 use mathlib.Core.Bool.{Bool, cond, _&&_}
@@ -11,12 +11,9 @@ use Rattle.vector.specs.declared.DVec3.{DVec3}
 abbrev pub vec : Float → Float → Float → DVec3
 vec a b c = record { x = a; y = b; z = c }
 
--- DVec3::ZERO, DVec3::Y, DVec3::Z
+-- DVec3::ZERO, DVec3::Z
 abbrev pub zero3 : DVec3
 zero3 = vec (dec 0 1) (dec 0 1) (dec 0 1)
-
-abbrev pub unitY : DVec3
-unitY = vec (dec 0 1) (dec 1 1) (dec 0 1)
 
 abbrev pub unitZ : DVec3
 unitZ = vec (dec 0 1) (dec 0 1) (dec 1 1)

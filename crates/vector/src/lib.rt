@@ -15,12 +15,6 @@ impl DVec3 {
         z: 0.0,
     };
 
-    pub const Y: DVec3 = DVec3 {
-        x: 0.0,
-        y: 1.0,
-        z: 0.0,
-    };
-
     pub const Z: DVec3 = DVec3 {
         x: 0.0,
         y: 0.0,
