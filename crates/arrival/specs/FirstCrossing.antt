@@ -1,4 +1,4 @@
--- The bracket that `firstCrossing` gives is two doubles in order, from 0 to the step's length. Assumes nothing.
+-- Statements. The bracket that `firstCrossing` gives is two doubles in order, from 0 to the step's length. Assumes nothing.
 use Prim.Native.Nat.{ℕ, zero, suc, _+_, _≤_}
 use native.Mathlib.Omega.{arith}
 use mathlib.Core.Path.{_≡_, refl, sym, subst}
@@ -30,8 +30,14 @@ record Before (len : Float) (i : ℕ) (b : Bracket) : Type 0 where
   from-0 : T (le (dec 0 1) (b .hi))
   below : i ≤ 8 → T (le (b .hi) (eighthsOf len i))
 
+-- two doubles in order, from 0 to the step's length
+pub record InStep (len : Float) (b : Bracket) : Type 0 where
+  pub ends : Ends b
+  pub from-0 : T (le (dec 0 1) (b .lo))
+  pub to : T (le (b .hi) len)
+
 record After (len : Float) (i : ℕ) (b : Bracket) : Type 0 where
-  ends : Ends b
+  in-step : InStep len b
   double : T (fits binary64 (b .hi))
   place : b .hi ≡ eighthsOf len i
 
@@ -40,7 +46,15 @@ module _ (f : Float → M Float) (len fEnd : Float) (double : T (fits binary64 l
   unfolding advanced
   stepped i b y fy h p d e =
       let to : T (le y len) = rw e (subst (λ (z : Float). T (le (eighthsOf len i) z)) (x .last) (x .rising i 8 h (omega arith))) in
-      record { ends = ends-from-0 (advanced b y fy) (p .double) d (p .from-0) (rw e (p .below h)) (le-through y len largest to top); double = d; place = e }
+      record {
+        in-step = record {
+          ends = ends-from-0 (advanced b y fy) (p .double) d (p .from-0) (rw e (p .below h)) (le-through y len largest to top);
+          from-0 = p .from-0;
+          to = to;
+        };
+        double = d;
+        place = e;
+      }
 
   sub-step : (i : ℕ) (b : Bracket) → i ≤ 8 → Before len i b → Gives (After len i) (subStep f len fEnd i b)
   unfolding subStep
@@ -50,20 +64,21 @@ module _ (f : Float → M Float) (len fEnd : Float) (double : T (fits binary64 l
       (gives-bind (After len i) (f (eighthsOf len i)) _ (λ fx.
       gives-pure (After len i) (advanced b (eighthsOf len i) fx) (stepped i b (eighthsOf len i) fx h p (div-fits binary64 (timesOf len i) (dec 8 1)) refl)))
 
-  crossing-from : (n i : ℕ) (b : Bracket) → n + i ≤ 9 → Before len i b → Gives (IfSome Ends) (crossingFrom f len fEnd n i b)
+  crossing-from : (n i : ℕ) (b : Bracket) → n + i ≤ 9 → Before len i b → Gives (IfSome (InStep len)) (crossingFrom f len fEnd n i b)
   unfolding crossingFrom
-  crossing-from zero i b h p = gives-pure (IfSome Ends) none tt
+  crossing-from zero i b h p = gives-pure (IfSome (InStep len)) none tt
   crossing-from (suc n) i b h p =
-      gives-then (After len i) (IfSome Ends) (subStep f len fEnd i b) _ (λ next q.
-      either (Gives (IfSome Ends)) (le (next .«f_hi») (dec 0 1)) (λ _. gives-pure (IfSome Ends) (some next) (q .ends))
+      gives-then (After len i) (IfSome (InStep len)) (subStep f len fEnd i b) _ (λ next q.
+      either (Gives (IfSome (InStep len))) (le (next .«f_hi») (dec 0 1)) (λ _. gives-pure (IfSome (InStep len)) (some next) (q .in-step))
       (crossing-from n (i + 1) next (omega arith)
       (record { double = q .double; from-0 = rw (q .place) (x .from-0 i (omega arith)); below = λ k. rw (q .place) (x .rising i (i + 1) (omega arith) k) })))
       (sub-step i b (omega arith) p)
 
 -- len is the length of a hop step, at most dt. 01, 4: "dt 0.0001..0.01"
-pub crossing-ends : (f : Float → M Float) (len f0 fEnd : Float) → T (fits binary64 len) → T (lt (dec 0 1) len) → T (le len largest) → Gives (IfSome Ends) (firstCrossing f len f0 fEnd)
+pub crossing-ends : (f : Float → M Float) (len f0 fEnd : Float) → T (fits binary64 len) → T (lt (dec 0 1) len) → T (le len largest)
+    → Gives (IfSome (InStep len)) (firstCrossing f len f0 fEnd)
 unfolding firstCrossing atStart
 crossing-ends f len f0 fEnd d p q =
     let x = eighths len d p q in
     crossing-from f len fEnd d q x 8 1 (atStart f0) (omega arith)
-    (record { double = round-fits binary64 false 0 1; from-0 = unfold round in unfold le in tt; below = λ k. x .from-0 1 k })
+    (record { double = round-fits binary64 _ _ _; from-0 = unfold round in unfold le in tt; below = λ k. x .from-0 1 k })

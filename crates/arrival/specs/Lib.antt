@@ -3,3 +3,4 @@ pub mod Contracts
 pub mod RootSearch
 pub mod Eighths
 pub mod FirstCrossing
+pub mod ArrivalTime

@@ -84,6 +84,7 @@ fn report(r: RunOut) -> Settled
     let t = r.tally;
     let end = r.end;
     let rect = t.rect;
+    let steps = t.steps;
     match end {
         RunEnd::Over(e) => {
             let how = e.how;
@@ -93,7 +94,7 @@ fn report(r: RunOut) -> Settled
                 termination: how,
                 contacts: r.contacts,
                 points: t.points,
-                steps: t.steps,
+                steps,
                 rest: state,
                 rect,
             }
@@ -105,7 +106,7 @@ fn report(r: RunOut) -> Settled
                 termination: Termination::Nothing,
                 contacts: r.contacts,
                 points: t.points,
-                steps: t.steps,
+                steps,
                 rest: good,
                 rect,
             }

@@ -1,4 +1,4 @@
--- The order of finite doubles by value: a total order in which the two zeros are equal. Assumes nothing.
+-- Lemmas. The order of finite doubles by value: a total order in which the two zeros are equal. Assumes nothing.
 use mathlib.Core.Path.{_≡_, refl, sym, subst}
 use mathlib.Core.Logic.{_⊎_, inl, inr}
 use mathlib.Core.Bool.{Bool, true, false, not, _&&_, _||_, Bool·beq}
@@ -51,7 +51,7 @@ Lt s a t b = pp s a + np t b < pp t b + np s a
 abbrev pub Eq : Bool → ℕ → Bool → ℕ → Type 0
 Eq s a t b = pp s a + np t b ≡ pp t b + np s a
 
-read-lt : (s : Bool) (a : ℕ) (t : Bool) (b : ℕ) → T (below s a t b) → Lt s a t b
+pub read-lt : (s : Bool) (a : ℕ) (t : Bool) (b : ℕ) → T (below s a t b) → Lt s a t b
 read-lt false a false b h = let l = ltb→lt a b h in omega arith
 read-lt false a true b h = absurd h
 read-lt true a false b h = let l = ltb→lt 0 (a + b) h in omega arith

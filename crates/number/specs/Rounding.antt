@@ -1,4 +1,5 @@
--- Rounding and the order of doubles: rounding is monotone and leaves a double as it is, sums and products are monotone and commute, and the middle of two doubles lies within them. Assumes nothing.
+-- Lemmas. Rounding and the order of doubles: rounding is monotone and leaves a double as it is, sums and products are monotone and commute, and the
+-- middle of two doubles lies within them. Assumes nothing.
 use mathlib.Core.Path.{_≡_, refl, sym, ap, subst, _∙_}
 use mathlib.Core.Bool.{Bool, true, false, not, _&&_, cond}
 use Prim.Native.Nat.{ℕ, zero, suc, _+_, _-_, _*_, _/_, _%_, _^_, _≤_, _<_, zero-le, compare}
@@ -215,7 +216,7 @@ sum-order p n E q m D r l G u v K P N Q M i j h k =
     let d = simp (add-mul, mul-assoc, mul-comm, mul-left-comm) at (mul-le-mul-right (E * D) k) in
     simp (mul-comm, mul-left-comm) (omega arith)
 
-parts : (f : Format) (s : Bool) (x D : ℕ) (t : Bool) (y E c : ℕ) (r : Summed f s (x * D) t (y * E) c) → pp (r .sign) (r .size) + (np s x * D + np t y * E) ≡ pp s x * D + pp t y * E + np (r .sign) (r .size)
+pub parts : (f : Format) (s : Bool) (x D : ℕ) (t : Bool) (y E c : ℕ) (r : Summed f s (x * D) t (y * E) c) → pp (r .sign) (r .size) + (np s x * D + np t y * E) ≡ pp s x * D + pp t y * E + np (r .sign) (r .size)
 parts f s x D t y E c r = omega (arith, r .exact, scale s x D .0, scale s x D .1, scale t y E .0, scale t y E .1)
 
 pub add-mono : (x y z w : Float) → T (finiteOf x) → T (finiteOf y) → T (finiteOf z) → T (finiteOf w) → T (le x y) → T (le z w) → T (le (x ⊕ z) (y ⊕ w))
@@ -244,11 +245,11 @@ grow-order p n E q m D P N i h =
     simp mul-comm (omega arith)
 
 -- ---- 0 is at most z: z has no negative part
-zero-is : dec 0 1 ≡ fin false 0 (pos 0)
+pub zero-is : dec 0 1 ≡ fin false 0 (pos 0)
 unfolding round
 zero-is = refl
 
-not-negative : (t : Bool) (n : ℕ) (d : ℤ) → T (le (dec 0 1) (fin t n d)) → np t (n * up d) ≤ pp t (n * up d)
+pub not-negative : (t : Bool) (n : ℕ) (d : ℤ) → T (le (dec 0 1) (fin t n d)) → np t (n * up d) ≤ pp t (n * up d)
 not-negative t n d h =
     let l : Le false (0 * 1 * down d) t (n * up d * 1) = le→ false 0 (pos 0) t n d (subst (λ (z : Float). T (le z (fin t n d))) zero-is h) in
     omega (arith, zero-mul (down d), scale t (n * up d) 1 .0, scale t (n * up d) 1 .1, mul-one (np t (n * up d)), mul-one (pp t (n * up d)))

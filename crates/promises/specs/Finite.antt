@@ -57,7 +57,7 @@ wider-vec r v l h t =
     both (coordOk (v .x)) (coordOk (v .y) && coordOk (v .z)) (wider _ _ _ l h (b .0))
     (both (coordOk (v .y)) (coordOk (v .z)) (wider _ _ _ l h (b .1)) (wider _ _ _ l h (a .1)))
 
-landing-passes : (s : BallState) → T (landingOk s) → T (stateOk s)
+pub landing-passes : (s : BallState) → T (landingOk s) → T (stateOk s)
 unfolding landingOk stateOk le neg round
 landing-passes s t =
     let w = withinOf (dec 0 1) (dec 100000 1) (s .time) in

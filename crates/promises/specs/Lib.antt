@@ -7,3 +7,9 @@ pub mod Finite
 pub mod Promises
 pub mod Calls
 pub mod Program
+pub mod Passes
+pub mod Bracketed
+pub mod OnePass
+pub mod EachPass
+pub mod Brackets
+pub mod Counted

@@ -1,1 +1,2 @@
 pub mod ContactStep
+pub mod Times

@@ -1,4 +1,4 @@
--- Where the root is finite, and where it is a NaN. Assumes nothing.
+-- Lemmas. Where the root is finite, and where it is a NaN; it is never below 0. Assumes nothing.
 use mathlib.Core.Path.{_≡_, refl, sym, subst}
 use mathlib.Core.Logic.{_⊎_, inl, inr}
 use Prim.Native.Nat.{ℕ, zero, suc, _*_, _/_, _^_}
@@ -7,10 +7,12 @@ use native.Mathlib.Omega.{arith}
 use mathlib.Core.Bool.{true, false}
 use lib.Dec.{T, not-T}
 use lib.IntN.{ℤ, pos}
-use lib.Ieee.{Float, nan, inf, fin, odd, lt, le, isNan}
+use lib.Ieee.{Float, nan, inf, fin, odd, round, lt, le, isNan}
 use lib.Ieee.Fits.{up-pos}
 use Rattle.number.specs.Number.{finiteOf}
-use Rattle.number.specs.Order.{le→, →le, nle-lt}
+use Rattle.number.specs.Order.{le→, →le, nle-lt, eq-le, zeros-eq}
+use Rattle.number.specs.Rounding.{zero-is}
+use Rattle.number.specs.Against0.{NotBelow, not-below}
 use Rattle.root.specs.Root.{inUnits, dropped, nearRoot, rootUnits, rootOf}
 
 abbrev pub +0 : Float
@@ -60,3 +62,16 @@ root-nan (inf true) n = inr (unfold lt in tt)
 root-nan (fin false m e) n = let p = root-plus m e in absurd (subst (λ (y : Float). T (isNan y)) (p .is) n)
 root-nan (fin true zero e) n = absurd n
 root-nan (fin true (suc m) e) n = inr (nle-lt +0 (fin true (suc m) e) tt tt (not-T (le +0 (fin true (suc m) e)) (minus-below m e)))
+
+from-0 : (x : Float) → T (le +0 x) → NotBelow x
+from-0 x h = not-below x (subst (λ (z : Float). T (le z x)) (sym zero-is) h)
+
+-- the root is never below 0: it is a NaN, or from 0 on
+pub root-not-below : (x : Float) → NotBelow (rootOf x)
+unfolding rootOf
+root-not-below nan = unfold lt in tt
+root-not-below (inf true) = unfold lt in tt
+root-not-below (inf false) = unfold round in unfold lt in tt
+root-not-below (fin true zero e) = from-0 (fin true zero e) (eq-le +0 (fin true zero e) (zeros-eq false (pos 0) true e))
+root-not-below (fin true (suc m) e) = unfold lt in tt
+root-not-below (fin false m e) = let p = root-plus m e in rw (p .is) (from-0 (fin false (p .m) (p .e)) (plus-above (p .m) (p .e)))

@@ -1,0 +1,82 @@
+-- Definitions. What is said of a pass: its step has a length above 0 and at most dt, an arrival lies within it, each search of a hop makes at most 200
+-- looks, a slide reaches its threshold within it, and time is not turned back.
+use mathlib.Core.Path.{_≡_}
+use mathlib.Core.Bool.{true}
+use lib.Dec.{T}
+use lib.Ieee.{Float, binary64, fits, le}
+use Rattle.number.specs.Ops.{_⊖_, dec}
+use Rattle.number.specs.Number.{minOf}
+use Rattle.number.specs.Against0.{StepLength}
+use Rattle.vector.specs.declared.DVec3.{DVec3}
+use Rattle.state.specs.declared.BallState.{BallState}
+use Rattle.state.specs.State.{stateOk}
+use Rattle.aero.specs.declared.AeroParams.{AeroParams}
+use Rattle.rk4.specs.declared.Motion.{Motion}
+use Rattle.search.specs.Search.{findRoot}
+use Rattle.search.specs.Evaluations.{Within}
+use Rattle.search.specs.declared.Bracket.{Bracket}
+use Rattle.slide.specs.Slide.{timeAtThreshold}
+use Rattle.slide.specs.declared.Patch.{Patch}
+use Rattle.tally.specs.Language.{onward}
+use Rattle.tally.specs.Language.{inM, Pass, again, over}
+use Rattle.tally.specs.declared.Conditions.{Conditions}
+use Rattle.arrival.specs.Arrival.{clearanceAt, hopArrival}
+use Rattle.arrival.specs.RootSearch.{LooksAtMost, Gives}
+use Rattle.arrival.specs.FirstCrossing.{IfSome}
+use Rattle.arrival.specs.ArrivalTime.{ArrivesIn}
+use Rattle.hop.specs.Hop.{stepArc, hopStep}
+use Rattle.hop.specs.declared.Flight.{Flight}
+use Rattle.hop.specs.declared.Way.{Way}
+use Rattle.hop.specs.declared.Way.the-variants.{Arrived, Late}
+use Rattle.roll.specs.Roll.{groundStep}
+use Rattle.roll.specs.declared.Roll.{Roll}
+use Rattle.roll.specs.declared.Ending.{Ending}
+use Rattle.promises.specs.Passes.{Made, inAir, onGround}
+
+-- a state that passes test 22, at a time that is a double
+pub record Timed (s : BallState) : Type 0 where
+  pub ok : stateOk s ≡ true
+  pub double : T (fits binary64 (s .time))
+
+-- such a state, at the time t or later
+pub record Later (t : Float) (s : BallState) : Type 0 where
+  pub timed : Timed s
+  pub later : T (le t (s .time))
+
+-- P of the state that a pass leads to
+abbrev pub HopLeads : (BallState → Type 0) → Pass Flight Way → Type 0
+HopLeads P (again f) = P (f .state)
+HopLeads P (over (Arrived b)) = P b
+HopLeads P (over (Late b)) = P b
+
+abbrev pub GroundLeads : (BallState → Type 0) → Pass Roll Ending → Type 0
+GroundLeads P (again g) = P (g .state)
+GroundLeads P (over e) = P (e .state)
+
+module _ (c : Conditions) where
+  -- a pass of a hop, on every course
+  pub record HopBracket (aero : AeroParams) (f : Flight) : Type 0 where
+    -- `h = self.dt.min(t_end - t)` is a double above 0, at most dt
+    pub step : StepLength (c .physics .dt) (stepArc c aero (f .state) .h)
+    -- 01: "the answer within the bracket": an arrival is at t ⊕ tau with 0 ≤ tau ≤ h
+    pub arrival : (end : Float)
+        → Gives (IfSome (ArrivesIn (f .state .time) (stepArc c aero (f .state) .h)))
+        (hopArrival (stepArc c aero (f .state)) (f .state .time) end (f .state .spin))
+    -- 01: "at most 200 evaluations", each one look
+    pub looks : (b : Bracket) (guess : Float) → LooksAtMost 200 (findRoot inM (clearanceAt (stepArc c aero (f .state))) b guess)
+    -- the pass leads to no earlier time
+    pub onward : Gives (HopLeads (Later (f .state .time))) (hopStep c aero f)
+
+  -- a pass of the ground, on every course
+  pub record GroundBracket (g : Roll) : Type 0 where
+    -- `h = self.dt.min(t_end - state.time)` is a double above 0, at most dt
+    pub step : StepLength (c .physics .dt) (minOf (c .physics .dt) (c .«t_end» ⊖ g .state .time))
+    -- 01: "In `slide` the slip speed less the threshold takes the clearance's place": tau is found within 0..h
+    pub slide : (p : Patch) (start : Motion) (uHat₀ : DVec3) (s₀ threshold sFull : Float) → let h = minOf (c .physics .dt) (c .«t_end» ⊖ g .state .time) in
+        Within (dec 0 1) h (timeAtThreshold p start (g .state .time) h uHat₀ s₀ threshold sFull)
+    -- the pass leads to no earlier time, by a slide, a roll or a stop
+    pub onward : Gives (GroundLeads (Later (g .state .time))) (groundStep c g)
+
+  abbrev pub Bracketed : Made → Type 0
+  Bracketed (inAir aero f) = HopBracket aero f
+  Bracketed (onGround g) = GroundBracket g
