@@ -1,5 +1,6 @@
 pub mod Steps
 pub mod Correcting
+pub mod Testing
 pub mod NotNan
 pub mod Aligning
 pub mod Patterns

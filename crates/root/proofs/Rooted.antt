@@ -1,18 +1,18 @@
 -- `rootOf` from a whole number that is nearest to a root. Assumes nothing.
 use mathlib.Core.Path.{_≡_, refl, sym, ap, _∙_, subst}
-use mathlib.Core.Logic.{_⊎_, inl, inr}
 use Prim.Native.Nat.{ℕ, suc, _+_, _-_, _*_, _/_, _%_, _^_, _≤_, _<_}
 use native.Mathlib.Nat.{mul-assoc, mul-le-mul, mul-le-mul-left, mul-le-mul-right, lt-of-not-le, le-antisymm, le-of-suc-le-suc, lt-of-lt-of-le, mul-div-cancel, not-le-of-lt, mul-lt-mul-of-pos-right, mul-pos}
 use native.Mathlib.Omega.{arith}
 use mathlib.Core.Bool.{Bool, true, false, cond, not}
 use lib.Dec.{T, leb, leb→le, nleb→lt}
 use lib.Pow.{pow-add, pow-pos, pow-mono}
-use lib.Ieee.{size, odd, ofBits, binary64}
+use lib.Ieee.{size, odd}
 use lib.Ieee.Digits.{size-lt, size-le}
-use Rattle.root.specs.Root.{floorRoot, nearRoot, rootUnits, rootOf, dropped}
+use Rattle.root.specs.Root.{floorRoot, nearRoot, rootUnits, dropped}
 use Rattle.root.specs.Halfway.{floor-root}
-use Rattle.root.specs.Inner.{Near, Aligned, unitsOf}
+use Rattle.root.specs.Inner.{Near, Aligned, Radicand, RootBits, unitsOf}
 use Rattle.root.proofs.Patterns.{normal, root-of-bits}
+use Rattle.root.proofs.Aligning.{normal as aligned-normal}
 
 -- ---- the nearest: only one number passes
 near-unique : (n f r : ℕ) (b : Bool) → f * f ≤ n → n < (f + 1) * (f + 1) → r * r < n + r → n ≤ r * r + r → (T b → n ≤ f * f + f) → (T (not b) → f * f + f < n) → cond b f (f + 1) ≡ r
@@ -88,36 +88,44 @@ square t g a h e =
     ∙ sym (mul-assoc (t * 2 ^ (g % 2)) (2 ^ 52) (2 ^ k * 2 ^ k))
 
 pub bits-of-root : (b w m r : ℕ) → 0 < b → b < 9218868437227405312 → Aligned b w
-    → m ≡ (4503599627370496 + w % 4503599627370496) * 2 ^ (w / 4503599627370496 % 2) → 4503599627370496 ≤ m → m < 18014398509481983 → Near m r
-    → (r + (w / 4503599627370496 / 2 - 1) * 4503599627370496 < 9218868437227405312) × (ofBits binary64 (r + (w / 4503599627370496 / 2 - 1) * 4503599627370496) ≡ rootOf (ofBits binary64 b))
-bits-of-root b w m r p q a e lo hi n =
+    → Radicand w m → Near m r
+    → RootBits b (r + (w / 4503599627370496 / 2 - 1) * 4503599627370496)
+bits-of-root b w m r p q a d n =
     let g = w / 4503599627370496 in
     let k = g / 2 - 1 in
     let t = 4503599627370496 + w % 4503599627370496 in
     let v = r + k * 4503599627370496 in
     let gl : 972 ≤ g = a .low in
     let gh : g < 3070 = a .high in
+    let lo = d .least in
+    let hi = d .most in
     let rl = n .least in
     let rm = n .most in
     let small : v < 9218868437227405312 = omega arith in
     let f : v / 4503599627370496 - 1 ≡ k = omega arith in
-    let d : 4503599627370496 + v % 4503599627370496 ≡ r = omega arith in
-    let u : unitsOf b * 2 ^ 1074 ≡ m * 4503599627370496 * (2 ^ k * 2 ^ k) = square t g (unitsOf b) (omega arith) (a .same) ∙ ap (λ (x : ℕ). x * 4503599627370496 * (2 ^ k * 2 ^ k)) (sym e) in (
-      small,
-      normal v (omega arith) small
-          ∙ ap (λ (x : ℕ). odd 53 false x (v / 4503599627370496 - 1) 1074) d
+    let z : 4503599627370496 + v % 4503599627370496 ≡ r = omega arith in
+    let u : unitsOf b * 2 ^ 1074 ≡ m * 4503599627370496 * (2 ^ k * 2 ^ k) = square t g (unitsOf b) (omega arith) (a .same) ∙ ap (λ (x : ℕ). x * 4503599627370496 * (2 ^ k * 2 ^ k)) (sym (d .is)) in
+    record {
+      finite = small;
+      is = normal v (omega arith) small
+          ∙ ap (λ (x : ℕ). odd 53 false x (v / 4503599627370496 - 1) 1074) z
           ∙ ap (λ (x : ℕ). odd 53 false r x 1074) f
           ∙ sym (root-units (m * 4503599627370496) k r (omega arith) (omega arith) (n .above) (n .under))
           ∙ ap rootUnits (sym u)
-          ∙ sym (root-of-bits b p q),
-    )
+          ∙ sym (root-of-bits b p q);
+    }
 
--- m, as the code takes it
-pub record Chosen (d g m : ℕ) : Type 0 where
-  pub is : m ≡ (4503599627370496 + d) * 2 ^ (g % 2)
-  pub least : 4503599627370496 ≤ m
-  pub most : m < 18014398509481983
+-- the two forms of m
+pub doubled : (w : ℕ) → w / 4503599627370496 % 2 ≡ 1 → Radicand w ((w % 4503599627370496 + 4503599627370496) * 2)
+doubled w e = record { is = rw e (omega arith); least = omega arith; most = omega arith }
 
-pub chosen : (d g m : ℕ) → d < 4503599627370496 → ((g % 2 ≡ 1) × (m ≡ (d + 4503599627370496) * 2)) ⊎ ((g % 2 ≡ 1 → ⊥) × (m ≡ d + 4503599627370496)) → Chosen d g m
-chosen d g m h (inl (p, q)) = record { is = rw p (omega arith); least = omega arith; most = omega arith }
-chosen d g m h (inr (p, q)) = let z : g % 2 ≡ 0 = omega (arith, p) in record { is = rw z (omega arith); least = omega arith; most = omega arith }
+pub single : (w : ℕ) → (w / 4503599627370496 % 2 ≡ 1 → ⊥) → Radicand w (w % 4503599627370496 + 4503599627370496)
+single w h = let e : w / 4503599627370496 % 2 ≡ 0 = omega (arith, h) in record { is = rw e (omega arith); least = omega arith; most = omega arith }
+
+-- bits whose field is that of the root, and whose digits are nearest
+pub tested-bits : (b w m : ℕ) → 4503599627370496 ≤ b → b < 9218868437227405312 → Radicand (b + 4607182418800017408) m
+    → w / 4503599627370496 ≡ (b + 4607182418800017408) / 9007199254740992 → Near m (w % 4503599627370496 + 4503599627370496) → RootBits b w
+tested-bits b w m h k d e n =
+    let v = b + 4607182418800017408 in
+    let f : w % 4503599627370496 + 4503599627370496 + (v / 4503599627370496 / 2 - 1) * 4503599627370496 ≡ w = omega arith in
+    rw f at (bits-of-root b v m _ (omega arith) k (aligned-normal b h k) d n)

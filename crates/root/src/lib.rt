@@ -1,9 +1,11 @@
-// The square root of a double, rounded to the nearest. A float estimate, of which nothing is proved, is tested exactly in whole numbers and corrected by 1; where the test fails, a digit loop works out the root.
+// The square root of a double, rounded to the nearest. A float estimate, of which nothing is proved, is tested exactly in whole numbers. Where the test fails, it is corrected by 1, or a digit loop works out the root.
 ghost use mathlib.Core.Path.{_≡_};
 ghost use Prim.Native.Nat.{_+_, _*_, _<_, _≤_};
-ghost use lib.Ieee.{binary64, ofBits};
+ghost use mathlib.Core.Bool.{true, not};
+ghost use lib.Dec.{T};
+ghost use lib.Ieee.{isNan};
 ghost use Rattle.root.specs.Root.{rootOf, hypotOf};
-ghost use Rattle.root.specs.Inner.{Near, Aligned};
+ghost use Rattle.root.specs.Inner.{Near, Aligned, Radicand, RootBits, Guess};
 
 // The whole number nearest the root of m * 2^52, binary digit by binary digit.
 fn digits(m: u64) -> u64
@@ -71,21 +73,88 @@ fn corrected(m: u64, r: u64) -> u64
     digits(m)
 }
 
-// An estimate of the root of v, for v in [1, 4), from an estimate of 1 / root: a step of Newton's method with Kadlec's constants, one with the usual constants, and a step of the third order.
-fn estimate(v: f64, seed: f64) -> f64 {
-    let y0 = seed * (1.68191409 - 0.703952253 * v * (seed * seed));
-    let y = y0 * (1.5 - 0.5 * v * (y0 * y0));
-    let s = v * y;
-    let e = 1.0 - s * y;
-    s + s * e * (0.5 + 0.375 * e)
+// s without its last 27 digits.
+fn cut(s: f64) -> f64
+    requires { ⌜ T (not (isNan s)) ⌝ }
+{
+    f64::from_bits(f64::to_bits(s) / 134217728 * 134217728)
 }
 
-// The whole number nearest the root of m * 2^52. v is m / 2^52, and seed an estimate of 1 / root of v.
-fn near(m: u64, v: f64, seed: f64) -> u64
-    requires { ⌜ (4503599627370496 ≤ m) × (m < 18014398509481983) ⌝ }
+// An estimate of the root of the positive double x, of which b are the bits. y0 is a seed for a multiple of 1 / root x, and t a multiple of x * y0 * y0, within 12.5%.
+// f * q is a cubic in t; y is 1 / (2 root x) to 2^-21. sh is the first estimate of the root cut to 26 digits, so that sh * sh and sh * sh - x are exact.
+fn estimate(x: f64, b: u64) -> f64
+    requires { ⌜ b < 9218868437227405312 ⌝ }
+{
+    let y0 = f64::from_bits((13823763871841648640 - b) / 2);
+    let t = x * 0.3149496573049748 * y0 * y0;
+    let f = 1.260772897610097 - t;
+    let q = t * (t - 0.8359733378808787) + 0.6896020179381465;
+    let hf = x * y0 * f;
+    let y = y0 * f * q;
+    let s = (hf + hf) * q;
+    if s != s {
+        return s;
+    }
+    let sh = cut(s);
+    let e = sh * sh - x;
+    let g = (hf * q * y - 1.75) + sh * y;
+    sh + e * y * g
+}
+
+// True only if r is the whole number nearest the root of m * 2^52. With r = a * 2^21 + u and l = 2 u + 1, (2 r + 1)^2 - 4 m 2^52 is 2^23 (a l - 2^21 (1024 m - a a)) + l l,
+// and r is the nearest where that is neither below 0 nor above 8 r. 1024 is added to 1024 m - a a, and 2^31 to the left of the test, so that nothing is below 0.
+fn is_near(m: u64, r: u64) -> bool
+    requires { ⌜ ((4503599627370496 ≤ m) × (m < 18014398509481983)) × ((4503599627370496 ≤ r) × (r < 9007199254740992)) ⌝ }
+    ensures { λ s. ⌜ (s ≡ true → Near m r) ⌝ }
+{
+    let a = r / 2097152;
+    let k = a * a;
+    let n = m * 1024 + 1024;
+    if n < k {
+        return false;
+    }
+    let d = n - k;
+    if d >= a * 4 {
+        return false;
+    }
+    let h = d * 2097152;
+    let l = r % 2097152 * 2 + 1;
+    let p = a * l + l * l / 8388608 + 2147483648;
+    if p < h {
+        return false;
+    }
+    p - h < a * 2
+}
+
+// m, by the field and the digits of w: the digits with the leading one, doubled where the field is odd.
+fn radicand(w: u64) -> u64
+    ensures { λ m. ⌜ Radicand w m ⌝ }
+{
+    let t = w % 4503599627370496 + 4503599627370496;
+    if w / 4503599627370496 % 2 == 1 { t * 2 } else { t }
+}
+
+// True only if w are the bits of the root of the normal double with the bits b.
+fn sure(b: u64, w: u64) -> bool
+    requires { ⌜ (4503599627370496 ≤ b) × (b < 9218868437227405312) ⌝ }
+    ensures { λ r. ⌜ (r ≡ true → RootBits b w) ⌝ }
+{
+    let v = b + 4607182418800017408;
+    if w / 4503599627370496 != v / 9007199254740992 {
+        return false;
+    }
+    is_near(
+        radicand(v),
+        w % 4503599627370496 + 4503599627370496,
+    )
+}
+
+// The whole number nearest the root of m * 2^52. p are the bits of m / 2^52.
+fn near(m: u64, p: u64) -> u64
+    requires { ⌜ ((4503599627370496 ≤ m) × (m < 18014398509481983)) × (p < 9218868437227405312) ⌝ }
     ensures { λ s. ⌜ Near m s ⌝ }
 {
-    let w = estimate(v, seed);
+    let w = estimate(f64::from_bits(p), p);
     if w != w {
         return digits(m);
     }
@@ -113,23 +182,42 @@ fn aligned(b: u64) -> u64
 // The bits of the root of the finite double above 0 with the bits b.
 fn positive(b: u64) -> u64
     requires { ⌜ (0 < b) × (b < 9218868437227405312) ⌝ }
-    ensures { λ r. ⌜ (r < 9218868437227405312) × (ofBits binary64 r ≡ rootOf (ofBits binary64 b)) ⌝ }
+    ensures { λ r. ⌜ RootBits b r ⌝ }
 {
     let w = aligned(b);
     let g = w / 4503599627370496;
-    let d = w % 4503599627370496;
-    let t = d + 4503599627370496;
-    let m = if g % 2 == 1 { t * 2 } else { t };
-    let p = d + (1023 + g % 2) * 4503599627370496;
-    let r = near(
-        m,
-        f64::from_bits(p),
-        f64::from_bits(6909647724535087104 - p / 2),
-    );
-    r + (g / 2 - 1) * 4503599627370496
+    let m = radicand(w);
+    let p = w % 4503599627370496 + (1023 + g % 2) * 4503599627370496;
+    near(m, p) + (g / 2 - 1) * 4503599627370496
 }
 
-pub fn root(x: f64) -> f64
+// The bits of the root of x, or 0: where x is no normal double above 0, or its estimate is not sure. How often that is, is not proved: `compare speed` counts it.
+pub fn guess(x: f64) -> u64
+    ensures { λ r. ⌜ Guess x r ⌝ }
+{
+    if x != x {
+        return 0;
+    }
+    let b = f64::to_bits(x);
+    if b < 4503599627370496 {
+        return 0;
+    }
+    if b >= 9218868437227405312 {
+        return 0;
+    }
+    let w = estimate(x, b);
+    if w != w {
+        return 0;
+    }
+    let r = f64::to_bits(w);
+    if sure(b, r) {
+        return r;
+    }
+    0
+}
+
+// The root of any double, digit by digit at the worst.
+fn exact(x: f64) -> f64
     ensures { λ r. ⌜ r ≡ rootOf x ⌝ }
 {
     if x != x {
@@ -149,6 +237,16 @@ pub fn root(x: f64) -> f64
         return -0.0;
     }
     0.0 / 0.0
+}
+
+pub fn root(x: f64) -> f64
+    ensures { λ r. ⌜ r ≡ rootOf x ⌝ }
+{
+    let r = guess(x);
+    if r != 0 {
+        return f64::from_bits(r);
+    }
+    exact(x)
 }
 
 pub fn hypot(a: f64, b: f64) -> f64

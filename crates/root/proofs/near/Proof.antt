@@ -1,8 +1,13 @@
 -- `root::near` meets its contract. Assumes nothing.
+use native.Mathlib.Omega.{arith}
 use Rattle.root.proofs.NotNan.{not-nan}
+use Rattle.root.proofs.Patterns.{no-nan}
 use borrow.Author.Needs.{needs}
 use Rattle.root.proofs.near.Statement.{statement}
 use Rattle.root.proofs.near.Tie as tie
+
+float-from-bits-estimate : tie.Need-float-from-bits-estimate
+float-from-bits-estimate c = no-nan _ (omega arith)
 
 estimate-requires : tie.Need-estimate-requires
 estimate-requires c κs = search needs
@@ -29,6 +34,7 @@ pub near-spec : {M : Type 1} → statement M
 near-spec =
     tie.close
     (tie.spec
+    float-from-bits-estimate
     estimate-requires
     digits-requires
     returns

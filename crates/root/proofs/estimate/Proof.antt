@@ -1,0 +1,32 @@
+-- `root::estimate` ends and is safe: of its result nothing is said. Assumes nothing.
+use native.Mathlib.Omega.{arith}
+use Rattle.root.proofs.NotNan.{not-nan}
+use Rattle.root.proofs.Patterns.{no-nan}
+use borrow.Author.Needs.{needs}
+use Rattle.root.proofs.estimate.Statement.{statement}
+use Rattle.root.proofs.estimate.Tie as tie
+
+sub-y0 : tie.Need-sub-y0
+sub-y0 c = search needs
+
+float-from-bits-y0 : tie.Need-float-from-bits-y0
+float-from-bits-y0 c = no-nan _ (omega arith)
+
+returns : tie.Need-returns
+returns c = search needs
+
+cut-requires : tie.Need-cut-requires
+cut-requires c κs = not-nan _ (c .if1 .left)
+
+returns-2 : tie.Need-returns-2
+returns-2 c = search needs
+
+pub estimate-spec : {M : Type 1} → statement M
+estimate-spec =
+    tie.close
+    (tie.spec
+    sub-y0
+    float-from-bits-y0
+    returns
+    cut-requires
+    returns-2)

@@ -1,0 +1,86 @@
+-- `root::is_near` meets its contract (`proofs/Testing.antt`). Assumes nothing.
+use mathlib.Core.Path.{_≡_, sym}
+use mathlib.Core.Bool.{true, false, true≢false}
+use native.Mathlib.Omega.{arith}
+use Rattle.root.specs.Inner.{Near}
+use Rattle.root.proofs.Testing.{Parts, parts, tested}
+use borrow.Author.Needs.{needs}
+use borrow.Author.Tests.{ltb-true}
+use Rattle.root.proofs.is_near.Statement.{statement}
+use Rattle.root.proofs.is_near.Tie as tie
+use Rattle.root.proofs.is_near.Reads as reads
+use Rattle.root.proofs.is_near.Lts as lts
+
+at : (c : lts.Start reads.Pre reads.Post) → Parts (c .args .r)
+at c = parts (c .args .r) (c .pre .1 .1)
+
+mul-k : tie.Need-mul-k
+mul-k c = omega (arith, at c)
+
+mul-n : tie.Need-mul-n
+mul-n c = search needs
+
+add-n : tie.Need-add-n
+add-n c = search needs
+
+returns : tie.Need-returns
+returns c e = absurd (true≢false (sym e))
+
+mul-if2 : tie.Need-mul-if2
+mul-if2 c = search needs
+
+returns-2 : tie.Need-returns-2
+returns-2 c e = absurd (true≢false (sym e))
+
+mul-h : tie.Need-mul-h
+mul-h c = search needs
+
+mul-l : tie.Need-mul-l
+mul-l c = search needs
+
+add-l : tie.Need-add-l
+add-l c = search needs
+
+mul-p : tie.Need-mul-p
+mul-p c = omega (arith, at (c .before .before))
+
+mul-p-2 : tie.Need-mul-p-2
+mul-p-2 c = omega (arith, at (c .before .before))
+
+add-p : tie.Need-add-p
+add-p c = omega (arith, at (c .before .before))
+
+add-p-2 : tie.Need-add-p-2
+add-p-2 c = omega (arith, at (c .before .before))
+
+returns-3 : tie.Need-returns-3
+returns-3 c e = absurd (true≢false (sym e))
+
+mul-result : tie.Need-mul-result
+mul-result c = search needs
+
+returns-4 : tie.Need-returns-4
+returns-4 c e =
+    let a = c .before .before .before in
+    tested (a .args .m) (a .args .r) _ (a .pre .1 .0) (a .pre .1 .1) (omega (arith, c .before .before .if1 .left)) (c .if3 .left) (ltb-true _ _ e)
+
+pub is-near-spec : {M : Type 1} → statement M
+is-near-spec =
+    tie.close
+    (tie.spec
+    mul-k
+    mul-n
+    add-n
+    returns
+    mul-if2
+    returns-2
+    mul-h
+    mul-l
+    add-l
+    mul-p
+    mul-p-2
+    add-p
+    add-p-2
+    returns-3
+    mul-result
+    returns-4)
