@@ -1,8 +1,8 @@
 #!/usr/bin/env python3
 """Builds the reference from dimple's sources, and the programs of this folder.
 
-    build.py                      reference, unpatched, compare (mock libraries), make_replay
-    build.py --libs DIR           compare linked with DIR/libcapi.a and DIR/libprobe.a
+    build.py                      reference, unpatched, logged, compare (mock libraries), make_replay
+    build.py --libs DIR           compare linked with DIR/libcapi.a, DIR/libprobe.a and DIR/libguesses.a
     build.py --libs DIR --fuzz    also target/fuzz, for afl-fuzz of Debian's afl++
     build.py --plants [NAME ..]   builds one mock library per planted difference and shows each is found
 
@@ -79,10 +79,10 @@ def mock(gen, out, crates=("capi", "probe"), cfgs=()):
 def doors(libs):
     """The doors that the libraries have: one `--cfg has_DOOR` each, so that others are left out of the comparison."""
     found = []
-    for lib in ("capi", "probe"):
+    for lib in ("capi", "probe", "guesses"):
         file = next((f for f in (libs / f"lib{lib}.a", libs / f"lib{lib}.so") if f.exists()), None)
         data = file.read_bytes() if file else b""
-        names = {n.decode() for n in re.findall(rb"(?<![A-Za-z0-9_])((?:dimple|probe)_[a-z0-9_]+)(?=\0)", data)}
+        names = {n.decode() for n in re.findall(rb"(?<![A-Za-z0-9_])((?:dimple|probe|guess)_[a-z0-9_]+)(?=\0)", data)}
         kind = "static" if file and file.suffix == ".a" else "dylib"
         found.append((lib, file is not None, kind, names))
     return found
@@ -90,7 +90,8 @@ def doors(libs):
 
 def program(name, libs=None, out=None):
     args = ["--crate-name", name, f"src/{name}.rs", "--extern", f"dimple_ref={TARGET/'libdimple_ref.rlib'}",
-            "--extern", f"dimple_std={TARGET/'libdimple_std.rlib'}", "-o", out or TARGET / name]
+            "--extern", f"dimple_std={TARGET/'libdimple_std.rlib'}",
+            "--extern", f"dimple_log={TARGET/'libdimple_log.rlib'}", "-o", out or TARGET / name]
     for lib, there, kind, names in doors(pathlib.Path(libs)) if libs else []:
         if not there:
             print(f"{libs} has no lib{lib}: its doors are left out")
@@ -118,7 +119,7 @@ def fuzz(gen, libs):
 def main():
     p = argparse.ArgumentParser()
     p.add_argument("--src")
-    p.add_argument("--libs", help="folder with libcapi.a and libprobe.a")
+    p.add_argument("--libs", help="folder with libcapi.a, libprobe.a and libguesses.a")
     p.add_argument("--fuzz", action="store_true", help="also target/fuzz, for afl-fuzz of Debian's afl++; needs --libs")
     p.add_argument("--plants", nargs="*", metavar="NAME", help="all planted differences, or those named")
     a = p.parse_args()
@@ -128,6 +129,7 @@ def main():
     generate(src, gen)
     library("dimple_ref", gen)
     library("dimple_std", gen, ["unpatched"])
+    library("dimple_log", gen, ["logged"])
     libs = pathlib.Path(a.libs).resolve() if a.libs else TARGET / "mock"
     if not a.libs:
         mock(gen, libs)

@@ -2,6 +2,8 @@
 
 mod board;
 mod faults;
+#[cfg(all(has_guess_root, has_guess_look))]
+mod guesses;
 mod leaves;
 mod shots;
 mod speed;

@@ -1,13 +1,14 @@
-//! Nanoseconds a step and a settle of the library, the reference and the unpatched build, in one run.
+//! Nanoseconds a step and a settle of the library, the reference and the unpatched build, in one run; and the shares of guesses.rs.
 
 use crate::shots::*;
+use std::hint::black_box;
 use std::time::Instant;
 
-const CONTACTS: usize = 64 * 20;
-const POINTS: usize = 4000 * 11;
+pub const CONTACTS: usize = 64 * 20;
+pub const POINTS: usize = 4000 * 11;
 
 /// The same shot with 0, 16 or 512 patches; the ball's way crosses the last ones listed.
-fn shot(patches: usize, dt: f64) -> Shot {
+pub fn shot(patches: usize, dt: f64) -> Shot {
     let mut s = bench();
     s.head[STEP_LIMIT] = 2_000_000;
     s.set(DT, dt);
@@ -31,6 +32,30 @@ fn best(mut work: impl FnMut()) -> f64 {
         runs += 1;
     }
     least * 1e9
+}
+
+/// ns of a root that waits for the one before it, and of one that does not: the door's, and the instruction's.
+#[cfg(has_probe_root)]
+fn roots() {
+    unsafe extern "C" {
+        safe fn probe_root(x: f64) -> f64;
+    }
+    let mut r = Rng(1);
+    let x: Vec<f64> = (0..1024).map(|_| r.range(0.001, 400.0)).collect();
+    let mut o = vec![0.0; x.len()];
+    let ns = |t: f64| t / x.len() as f64;
+    let chain = |f: fn(f64) -> f64| ns(best(|| drop(black_box(x.iter().fold(0.0, |a, v| f(v + a * 1e-300))))));
+    let mut free = |f: fn(f64) -> f64| {
+        ns(best(|| {
+            x.iter().zip(&mut o).for_each(|(v, o)| *o = f(*v));
+            black_box(&mut o);
+        }))
+    };
+    // one call at a time, as a settle makes them: a vector of roots is not what is asked
+    let instruction: fn(f64) -> f64 = |v| black_box(v).sqrt();
+    println!("root, ns, of numbers from 0.001 to 400: library, instruction");
+    println!("  each waits for the one before: {:5.1} {:5.1}   (with a product and a sum)", chain(|v| probe_root(v)), chain(|v| v.sqrt()));
+    println!("  none waits:                    {:5.1} {:5.1}", free(|v| probe_root(v)), free(instruction));
 }
 
 pub fn run() {
@@ -61,5 +86,11 @@ pub fn run() {
             );
         }
     }
+    #[cfg(has_probe_root)]
+    roots();
+    #[cfg(all(has_guess_root, has_guess_look))]
+    crate::guesses::run();
+    #[cfg(not(all(has_guess_root, has_guess_look)))]
+    println!("guesses: the library has no doors for them");
     println!("leaves: `compare leaves --share 1` prints ns a call of both sides");
 }

@@ -11,6 +11,12 @@ pub trait Stand {
     fn max_of(self, b: f64) -> f64;
 }
 
+// The numbers whose roots were taken, in a build with `--cfg logged`.
+#[cfg(logged)]
+thread_local! {
+    pub static ROOTS: std::cell::RefCell<Vec<f64>> = const { std::cell::RefCell::new(Vec::new()) };
+}
+
 #[cfg(unpatched)]
 impl Stand for f64 {
     fn root(self) -> f64 {
@@ -43,6 +49,8 @@ impl Stand for f64 {
 impl Stand for f64 {
     /// IEEE 754 squareRoot, nearest with ties to even.
     fn root(self) -> f64 {
+        #[cfg(logged)]
+        ROOTS.with_borrow_mut(|r| r.push(self));
         self.sqrt()
     }
 

@@ -120,6 +120,17 @@ fn sample_at(sheet: &[u8], index: &[u64], x: f64, z: f64) -> GroundSample
     sample_of(sheet, count, n, i, x, z)
 }
 
+// What a look finds, by trying each patch.
+fn scanned_at(sheet: &[u8], x: f64, z: f64) -> GroundSample
+    requires { ⌜ answerOf (now sheet) ≡ 0 ⌝ }
+    ensures { λ r. ⌜ r ≡ courseOf (now (sheet .entry)) x z ⌝ }
+{
+    let count = octets::half(sheet, 0) as usize;
+    let n = octets::half(sheet, 8) as usize;
+    let i = index::find_patch(sheet, count, n, x, z);
+    sample_of(sheet, count, n, i, x, z)
+}
+
 // A look: the spot is tested, and one that passes widens the rectangle.
 pub fn look_at(sheet: &[u8], index: &[u64], rect: Rect, x: f64, z: f64) -> LookOut
     requires { ⌜ Ready (now sheet) (now index) ⌝ }
@@ -127,6 +138,26 @@ pub fn look_at(sheet: &[u8], index: &[u64], rect: Rect, x: f64, z: f64) -> LookO
 {
     if look::spot_ok(x, z) {
         let s = sample_at(sheet, index, x, z);
+        let q = look::widen_to(rect, x, z);
+        LookOut {
+            what: Look::Saw(s),
+            rect: q,
+        }
+    } else {
+        LookOut {
+            what: Look::Off,
+            rect,
+        }
+    }
+}
+
+// The same without an index, for a call that makes one or two looks.
+pub fn scan_at(sheet: &[u8], rect: Rect, x: f64, z: f64) -> LookOut
+    requires { ⌜ answerOf (now sheet) ≡ 0 ⌝ }
+    ensures { λ r. ⌜ did (r .what) (r .rect) ≡ exec (courseOf (now (sheet .entry))) rect (lookTree x z) ⌝ }
+{
+    if look::spot_ok(x, z) {
+        let s = scanned_at(sheet, x, z);
         let q = look::widen_to(rect, x, z);
         LookOut {
             what: Look::Saw(s),
@@ -157,10 +188,7 @@ pub fn height(sheet: &[u8], x: f64, z: f64) -> HeightOut
         };
     }
     if look::spot_ok(x, z) {
-        let count = octets::half(sheet, 0) as usize;
-        let n = octets::half(sheet, 8) as usize;
-        let i = index::find_patch(sheet, count, n, x, z);
-        let g = sample_of(sheet, count, n, i, x, z);
+        let g = scanned_at(sheet, x, z);
         HeightOut {
             answer: 0,
             height: g.height,

@@ -2,6 +2,7 @@
 ghost use mathlib.Core.Path.{_≡_};
 ghost use lib.ListN.{length};
 ghost use Rattle.course.specs.Index.{Ready};
+ghost use Rattle.sheet.specs.Sheet.{answerOf};
 ghost use Rattle.ground.specs.Tests.{refusalOf, stepTest, impactTest};
 ghost use Rattle.ground.specs.Settle.{result, refusal as refusalR, conditionsOf, settleOf, terminationNumber};
 ghost use Rattle.ground.specs.Contracts.{settledBy};
@@ -206,18 +207,17 @@ fn step_test(
 
 fn step_made(
     sheet: &[u8],
-    index: &[u64],
     dt: f64,
     stop_speed: f64,
     roll_threshold: f64,
     ball: BallModel,
     state: BallState,
 ) -> StepOut
-    requires { ⌜ Ready (now sheet) (now index) ⌝ }
+    requires { ⌜ answerOf (now sheet) ≡ 0 ⌝ }
     ensures { λ r. ⌜ r ≡ stepMade (now (sheet .entry)) dt «stop_speed» «roll_threshold» ball state ⌝ }
 {
     let pos = state.pos;
-    let seen = course::look_at(sheet, index, look::no_rect(), pos.x, pos.z);
+    let seen = course::scan_at(sheet, look::no_rect(), pos.x, pos.z);
     let q = seen.rect;
     let what = seen.what;
     let Look::Saw(at) = what else {
@@ -227,7 +227,7 @@ fn step_made(
     let next = moved.state;
     let phase = moved.phase;
     let spot = next.pos;
-    let found = course::look_at(sheet, index, q, spot.x, spot.z);
+    let found = course::scan_at(sheet, q, spot.x, spot.z);
     let there = found.what;
     let Look::Saw(under) = there else {
         return step_refused(22, state);
@@ -259,9 +259,7 @@ pub fn step(
     if answer != 0 {
         return step_refused(answer, state);
     }
-    let mut index = [0u64; 290];
-    course::make_index(sheet, &mut index);
-    step_made(sheet, &index, dt, stop_speed, roll_threshold, ball, state)
+    step_made(sheet, dt, stop_speed, roll_threshold, ball, state)
 }
 
 pub struct ImpactOut {
@@ -291,12 +289,12 @@ fn impact_test(sheet: &[u8], ball: BallModel, state: BallState) -> u32
     0
 }
 
-fn impact_made(sheet: &[u8], index: &[u64], ball: BallModel, state: BallState) -> ImpactOut
-    requires { ⌜ Ready (now sheet) (now index) ⌝ }
+fn impact_made(sheet: &[u8], ball: BallModel, state: BallState) -> ImpactOut
+    requires { ⌜ answerOf (now sheet) ≡ 0 ⌝ }
     ensures { λ r. ⌜ r ≡ impactMade (now (sheet .entry)) ball state ⌝ }
 {
     let pos = state.pos;
-    let seen = course::look_at(sheet, index, look::no_rect(), pos.x, pos.z);
+    let seen = course::scan_at(sheet, look::no_rect(), pos.x, pos.z);
     let what = seen.what;
     let Look::Saw(at) = what else {
         return impact_out(22, state);
@@ -316,7 +314,5 @@ pub fn impact(sheet: &[u8], ball: BallModel, state: BallState) -> ImpactOut
     if answer != 0 {
         return impact_out(answer, state);
     }
-    let mut index = [0u64; 290];
-    course::make_index(sheet, &mut index);
-    impact_made(sheet, &index, ball, state)
+    impact_made(sheet, ball, state)
 }

@@ -44,8 +44,12 @@ Indexed s ix = (k : ℕ) → k < 256 → Entry s ix k (getD ix k 0)
 unfoldable pub Row : List ℕ → (ℕ → Bool) → List ℕ → ℕ → Type 0
 Row s p ix k = (w : ℕ) → w < 8 → Marks p (getD ix (k + w) 0) (low s (w + 1) - low s w) (low s w)
 
+-- as many patches, and fewer, have no index
+abbrev pub few : ℕ
+few = 48
+
 -- What a look asks: an accepted sheet, and its index. Where there are few patches the index is not used.
 pub record Ready (s : List ℕ) (ix : List ℕ) : Type 0 where
   pub ok : answerOf s ≡ 0
   pub long : length ix ≡ 290
-  pub marks : 48 < patches s → Indexed s ix
+  pub marks : few < patches s → Indexed s ix

@@ -9,6 +9,9 @@ ghost use Rattle.sheet.specs.Sheet.{field, real, covers, first, surfaces, patch
 ghost use Rattle.sheet.specs.Accepted.{EdgesReal};
 ghost use Rattle.index.specs.Index.{Marks, reaches, cut, Indexed, Row, Ready};
 
+// Up to as many patches are tried one by one, without an index: docs/SPEED.md has the measurement.
+const FEW: usize = 48;
+
 // A field that is known to be no NaN.
 fn edge(s: &[u8], i: usize, j: usize) -> f64
     requires { ⌜ (80 + 64 * i ≤ length (now s)) × ((j < 8) × T (not (nanBits binary64 (field (now s) i j)))) ⌝ }
@@ -125,6 +128,17 @@ fn strip_of(index: &[u64], d: usize, x: f64) -> usize
     c
 }
 
+// Whether a look at the spot needs no scan: the column and the row that are guessed have the spot. How often that is, is not proved: `compare speed` counts it.
+pub fn is_guessed(index: &[u64], x: f64, z: f64) -> bool
+    requires { ⌜ length (now index) ≡ 290 ⌝ }
+{
+    let c = strip_of(index, 0, x);
+    let e = strip_of(index, 1, z);
+    let in_column = number::within(cut_at(index, c), cut_at(index, c + 1), x);
+    let in_row = number::within(cut_at(index, 17 + e), cut_at(index, 17 + e + 1), z);
+    in_column & in_row
+}
+
 // The first patch with the spot in it, by the words of marks that begin at p and at q.
 fn find_marked(
     sheet: &[u8],
@@ -176,7 +190,7 @@ pub fn find(sheet: &[u8], index: &[u64], count: usize, n: usize, x: f64, z: f64)
     requires { ⌜ Ready (now sheet) (now index) × ((count ≡ surfaces (now sheet)) × (n ≡ patches (now sheet))) ⌝ }
     ensures { λ r. ⌜ r ≡ first (covers (now (sheet .entry)) x z) n count ⌝ }
 {
-    if n <= 48 {
+    if n <= FEW {
         find_patch(sheet, count, n, x, z)
     } else {
         find_indexed(sheet, index, count, n, x, z)
@@ -240,7 +254,7 @@ pub fn make_index(sheet: &[u8], index: &mut [u64])
 {
     let count = octets::half(sheet, 0) as usize;
     let n = octets::half(sheet, 8) as usize;
-    if n <= 48 {
+    if n <= FEW {
         return;
     }
     spread(sheet, count, n, 0, index);

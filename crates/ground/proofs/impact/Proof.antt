@@ -1,7 +1,6 @@
 -- An impact: refused, or made.
-use borrow.Author.Needs.{needs}
 use borrow.Author.Tests.{ne-eqb}
-use mathlib.Core.Path.{refl, _∙_, sym}
+use mathlib.Core.Path.{_∙_, sym}
 use Rattle.ground.specs.Step.{impactAnswer}
 use Rattle.ground.proofs.Whole.{impact-sheet}
 use Rattle.ground.proofs.impact.Statement.{statement}
@@ -11,31 +10,12 @@ returns : tie.Need-returns
 unfolding impactAnswer
 returns c = rw (c .impact-out .ensures, ← c .before .before .impact-test .ensures, ne-eqb _ _ (c .before .if1 .taken))
 
-slice-aggregate-make-index : tie.Need-slice-aggregate-make-index
-slice-aggregate-make-index c = search needs
-
-make-index-requires : tie.Need-make-index-requires
-make-index-requires c κs = (impact-sheet _ _ _ (sym (c .before .before .impact-test .ensures) ∙ c .before .if1 .left), refl)
-
-slice-aggregate-impact-made : tie.Need-slice-aggregate-impact-made
-slice-aggregate-impact-made c = search needs
-
 impact-made-requires : tie.Need-impact-made-requires
-impact-made-requires c κs = c .before .before .make-index .ensures
+impact-made-requires c κs = impact-sheet _ _ _ (sym (c .before .impact-test .ensures) ∙ c .if1 .left)
 
 returns-2 : tie.Need-returns-2
 unfolding impactAnswer
-returns-2 c = rw (← c .before .before .before .before .before .before .impact-test .ensures, c .before .before .before .before .before .if1 .left) (c .impact-made .ensures)
+returns-2 c = rw (← c .before .before .impact-test .ensures, c .before .if1 .left) (c .impact-made .ensures)
 
 pub impact-spec : {M : Type 1} → statement M
-impact-spec =
-    tie.close
-    (tie.spec
-    (λ c κs. tt)
-    (λ c κs. tt)
-    returns
-    slice-aggregate-make-index
-    make-index-requires
-    slice-aggregate-impact-made
-    impact-made-requires
-    returns-2)
+impact-spec = tie.close (tie.spec (λ c κs. tt) (λ c κs. tt) returns impact-made-requires returns-2)

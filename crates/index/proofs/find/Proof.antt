@@ -1,6 +1,7 @@
 -- find: the first patch with the spot in it.
 use mathlib.Core.Path.{subst}
 use Prim.Native.Nat.{ℕ, _<_}
+use Rattle.index.specs.Index.{few}
 use Rattle.index.proofs.find.Statement.{statement}
 use Rattle.index.proofs.find.Tie as tie
 
@@ -8,7 +9,7 @@ find-patch-requires : tie.Need-find-patch-requires
 find-patch-requires c κs = (c .before .before .before .pre .0 .ok, c .before .before .before .pre .1)
 
 find-indexed-requires : tie.Need-find-indexed-requires
-find-indexed-requires c κs = ((c .before .before .before .pre .0 .ok, c .before .before .before .pre .1), (c .before .before .before .pre .0 .long, c .before .before .before .pre .0 .marks (subst (λ (n : ℕ). 48 < n) (c .before .before .before .pre .1 .1) (c .if1 .left))))
+find-indexed-requires c κs = ((c .before .before .before .pre .0 .ok, c .before .before .before .pre .1), (c .before .before .before .pre .0 .long, c .before .before .before .pre .0 .marks (subst (λ (n : ℕ). few < n) (c .before .before .before .pre .1 .1) (c .if1 .left))))
 
 returns : tie.Need-returns
 returns c = c .find-patch .ensures
