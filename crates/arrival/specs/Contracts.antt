@@ -1,9 +1,20 @@
--- What the answers of the functions that only look stand for.
+-- Contracts of inner functions: what the answers of the functions that only look stand for.
+use mathlib.Core.List.{List}
 use mathlib.Core.Option.{Option, none, some}
 use lib.Ieee.{Float}
 use Rattle.state.specs.declared.BallState.{BallState}
 use Rattle.search.specs.declared.Bracket.{Bracket}
+use Rattle.vector.specs.declared.DVec3.{DVec3}
+use Rattle.look.specs.Tree.{Oracle}
 use Rattle.tally.specs.Language.{Outcome, goes, stops}
+use Rattle.tally.specs.Contracts.{place, Runs}
+use Rattle.tally.specs.declared.Tally.{Tally}
+use Rattle.arrival.specs.Arrival.{clearance, hopArrival}
+use Rattle.arrival.specs.declared.Arc.{Arc}
+use Rattle.arrival.specs.declared.Cleared.{Cleared}
+use Rattle.arrival.specs.declared.Cleared.the-variants.{Off as ClearedOff, At as ClearedAt}
+use Rattle.arrival.specs.declared.Arrived.{Arrived}
+use Rattle.arrival.specs.declared.Arrived.the-variants.{Off as ArrivedOff, Nothing as NoneArrived, At as ArrivedAt}
 use Rattle.arrival.specs.declared.Value.{Value}
 use Rattle.arrival.specs.declared.Value.the-variants.{Off as ValueOff, At as ValueAt}
 use Rattle.arrival.specs.declared.SubStep.{SubStep}
@@ -31,3 +42,28 @@ abbrev pub arrivalBy : Arrival → Outcome (Option BallState)
 arrivalBy ArrivalOff = stops 22
 arrivalBy NoArrival = goes none
 arrivalBy (ArrivalAt s) = goes (some s)
+
+-- ---- from tally to tally
+abbrev pub clearedBy : Cleared → Outcome Float
+clearedBy ClearedOff = stops 22
+clearedBy (ClearedAt x t) = goes x
+
+abbrev pub afterClear : Tally → Cleared → Tally
+afterClear t ClearedOff = t
+afterClear t (ClearedAt x t') = t'
+
+abbrev pub arrivedBy : Arrived → Outcome (Option BallState)
+arrivedBy (ArrivedOff t) = stops 22
+arrivedBy (NoneArrived t) = goes none
+arrivedBy (ArrivedAt s t) = goes (some s)
+
+abbrev pub afterArrive : Arrived → Tally
+afterArrive (ArrivedOff t) = t
+afterArrive (NoneArrived t) = t
+afterArrive (ArrivedAt s t) = t
+
+abbrev pub Clears : Oracle → Tally → DVec3 → Cleared → Type 0
+Clears o t p r = (lc lp : List Float) → Runs o (clearance p) 0 (place t lc lp) (clearedBy r) (place (afterClear t r) lc lp)
+
+abbrev pub Arrives : Oracle → Tally → Arc → Float → Float → DVec3 → Arrived → Type 0
+Arrives o t arc time end spin r = (lc lp : List Float) → Runs o (hopArrival arc time end spin) 0 (place t lc lp) (arrivedBy r) (place (afterArrive r) lc lp)

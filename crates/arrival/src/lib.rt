@@ -6,13 +6,15 @@ ghost use Rattle.search.specs.Search.{findRoot};
 ghost use Rattle.tally.specs.Language.{inM};
 ghost use Rattle.tally.specs.Contracts.{Looks};
 ghost use Rattle.arrival.specs.Arrival.{arcOf, clearance as clearanceOf, clearanceAt, advanced, atStart, subStep, firstCrossing, endValue, guessIn, endingAt, crossingTime, placed, hopArrival};
-ghost use Rattle.arrival.specs.Contracts.{valueBy, subStepBy, crossingBy, arrivalBy};
+ghost use Rattle.arrival.specs.Contracts.{valueBy, subStepBy, crossingBy, arrivalBy, Clears, Arrives};
 use look::Look;
 use look::Rect;
 use rk4::State;
 use search::Bracket;
 use search::RootStep;
 use state::BallState;
+use tally::Looked;
+use tally::Tally;
 use vector::DVec3;
 
 const CROSSING_SUBSTEPS: u32 = 8;
@@ -53,7 +55,7 @@ pub struct ValueOut {
 }
 
 // Height of a ball centred at `pos` above the terrain under it.
-pub fn clearance(sheet: &[u8], index: &[u64], rect: Rect, pos: DVec3) -> ValueOut
+fn clearance(sheet: &[u8], index: &[u64], rect: Rect, pos: DVec3) -> ValueOut
     requires { ⌜ Ready (now sheet) (now index) ⌝ }
     ensures { λ r. ⌜ Looks (courseOf (now (sheet .entry))) rect (clearanceOf pos) (valueBy (r .what)) (r .rect) ⌝ }
 {
@@ -356,7 +358,7 @@ fn place(s: State, time: f64, height: f64, spin: DVec3) -> BallState
     }
 }
 
-pub fn hop_arrival(
+fn hop_arrival(
     sheet: &[u8],
     index: &[u64],
     rect: Rect,
@@ -416,5 +418,53 @@ pub fn hop_arrival(
                 rect: q3,
             }
         }
+    }
+}
+
+// ---- both from tally to tally, as a pass of a hop asks them
+
+// The spot failed its test, or the clearance there.
+pub enum Cleared {
+    Off,
+    At(f64, Tally),
+}
+
+pub fn clear(sheet: &[u8], index: &[u64], t: Tally, pos: DVec3) -> Cleared
+    requires { ⌜ Ready (now sheet) (now index) ⌝ }
+    ensures { λ r. ⌜ Clears (courseOf (now (sheet .entry))) t pos r ⌝ }
+{
+    let Looked::Saw(s, t1) = tally::look(sheet, index, t, pos.x, pos.z) else {
+        return Cleared::Off;
+    };
+    Cleared::At(pos.y - s.height, t1)
+}
+
+pub enum Arrived {
+    Off(Tally),
+    Nothing(Tally),
+    At(BallState, Tally),
+}
+
+pub fn arrive(
+    sheet: &[u8],
+    index: &[u64],
+    tally: Tally,
+    arc: Arc,
+    t: f64,
+    end: f64,
+    spin: DVec3,
+) -> Arrived
+    requires { ⌜ Ready (now sheet) (now index) ⌝ }
+    ensures { λ r. ⌜ Arrives (courseOf (now (sheet .entry))) tally arc t end spin r ⌝ }
+{
+    let rect = tally.rect;
+    let met = hop_arrival(sheet, index, rect, arc, t, end, spin);
+    let wider = met.rect;
+    let how = met.how;
+    let after = tally::with_rect(tally, wider);
+    match how {
+        Arrival::Off => Arrived::Off(after),
+        Arrival::Nothing => Arrived::Nothing(after),
+        Arrival::At(s) => Arrived::At(s, after),
     }
 }

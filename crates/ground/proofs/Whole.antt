@@ -17,12 +17,12 @@ use Rattle.course.specs.Sheet.{answerOf, courseOf}
 use Rattle.records.specs.Records.{Clean, recs, shown, zeroed}
 use Rattle.records.proofs.Laws.{shows, clean-zeroed, zeroed-length, recs-length}
 use Rattle.tally.specs.Language.{Ran, ran, Log, Outcome, if_then_else_}
-use Rattle.tally.specs.Contracts.{logOf, Grown, lent}
+use Rattle.tally.specs.Contracts.{place, logAt, Grown}
 use Rattle.shot.specs.declared.Shot.{Shot}
 use Rattle.tally.specs.declared.Conditions.{Conditions}
-use Rattle.ground_phase.specs.Contracts.{endedBy}
+use Rattle.ground_phase.specs.Contracts.{endedBy, afterRun}
 use Rattle.train.specs.Contracts.{TrainRuns}
-use Rattle.train.specs.declared.RunOut.{RunOut}
+use Rattle.ground_phase.specs.declared.RunOut.{RunOut}
 use Rattle.ground.specs.Tests.{refusalOf, stepTest, impactTest}
 use Rattle.ground.specs.Settle.{result, reportOf, conditionsOf, runOf, settleOf}
 use Rattle.ground.specs.Contracts.{settledBy}
@@ -68,10 +68,11 @@ pub settled-whole : (s : List ℕ) (shot : Shot) (cs ps : List Float) (r : RunOu
     → result (settledBy r) mc mp ≡ settleOf s shot cs ps
 unfolding settleOf reportOf runOf recs
 settled-whole s shot cs ps r {mc = mc} {mp} h ec t lc lp =
-    let vc = seen 20 (r .contacts) cs mc (t .contacts) (clean-zeroed 20 0 cs zero-le) lc in
-    let vp = seen 11 (r .tally .points) ps mp (t .points) (clean-zeroed 11 0 ps zero-le) lp in
-    let a : result (settledBy r) mc mp ≡ reportOf (length cs) (length ps) (did (ran (endedBy (r .end)) (logOf (lent (length cs / 20) (r .contacts) mc) (length ps / 11) (r .tally) mp)) (r .tally .rect))
-    = rw (recs-length 20 (r .contacts) mc, recs-length 11 (r .tally .points) mp, ← vc, ← vp) in
+    let vc = seen 20 (afterRun r .contacts) cs mc (t .contacts) (clean-zeroed 20 0 cs zero-le) lc in
+    let vp = seen 11 (afterRun r .points) ps mp (t .points) (clean-zeroed 11 0 ps zero-le) lp in
+    let d = did (ran (endedBy r) (logAt (place (afterRun r) mc mp))) (afterRun r .rect) in
+    let a : result (settledBy r) mc mp ≡ reportOf (length cs) (length ps) d
+    = rw (recs-length 20 (afterRun r .contacts) mc, recs-length 11 (afterRun r .points) mp, ← vc, ← vp) in
     rw h (a ∙ ap (reportOf (length cs) (length ps)) (rw (zeroed-length cs 0, zeroed-length ps 0, ec) at (t .same)))
 
 -- a step, an impact

@@ -8,14 +8,13 @@ ghost use Rattle.ground.specs.Settle.{result, refusal as refusalR, condi
 ghost use Rattle.ground.specs.Contracts.{settledBy};
 ghost use Rattle.ground.specs.Step.{stepOut, stepMade, stepOf, impactOut, impactMade, impactAnswer};
 use aero::BallModel;
-use ground_phase::RunEnd;
+use ground_phase::RunOut;
 use look::Look;
 use look::Rect;
 use shot::Shot;
 use state::BallState;
 use state::Termination;
 use tally::Conditions;
-use train::RunOut;
 use vector::DVec3;
 
 // The first test of a settle that fails, or 0.
@@ -82,32 +81,31 @@ pub fn refused(answer: u32) -> Settled
 fn report(r: RunOut) -> Settled
     ensures { λ s. ⌜ s ≡ settledBy r ⌝ }
 {
-    let t = r.tally;
-    let end = r.end;
-    let rect = t.rect;
-    let steps = t.steps;
-    match end {
-        RunEnd::Over(e) => {
+    match r {
+        RunOut::Over(e, t) => {
             let how = e.how;
             let state = e.state;
+            let rect = t.rect;
+            let steps = t.steps;
             Settled {
                 answer: 0,
                 termination: how,
-                contacts: r.contacts,
+                contacts: t.contacts,
                 points: t.points,
                 steps,
                 rest: state,
                 rect,
             }
         }
-        RunEnd::Ended(a) => {
+        RunOut::Ended(a, t) => {
             let good = t.good;
+            let rect = t.rect;
             Settled {
                 answer: a,
                 termination: Termination::Nothing,
-                contacts: r.contacts,
+                contacts: t.contacts,
                 points: t.points,
-                steps,
+                steps: t.steps,
                 rest: good,
                 rect,
             }

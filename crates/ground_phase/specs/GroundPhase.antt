@@ -29,8 +29,12 @@ module _ (c : Conditions) where
   unfoldable pub groundFrom : ℕ → Roll → M Ending
   groundFrom n = loop n (λ g. isLate g.state.time c.«t_end») (λ g. timeUp g.state (lastPhase g.last)) (groundStep c)
 
+  -- from what the loop carries
+  abbrev pub groundOn : Roll → M Ending
+  groundOn g = do
+    n ← stepsLeft c
+    groundFrom n g
+
   -- slide and roll, from the last sample on
   unfoldable pub ground : BallState → GroundSample → M Ending
-  ground state s = do
-    n ← stepsLeft c
-    groundFrom n (roll state s state.time 0)
+  ground state s = groundOn (roll state s state.time 0)

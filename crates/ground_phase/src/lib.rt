@@ -5,26 +5,27 @@ ghost use Rattle.course.specs.Index.{Ready};
 ghost use Rattle.roll.specs.Roll.{roll as rollFrom};
 ghost use Rattle.ground_phase.specs.GroundPhase.{lastPhase};
 ghost use Rattle.ground_phase.specs.Contracts.{TimesUp, Grounds};
-use records::Pushed;
 use roll::Ending;
 use roll::Roll;
-use roll::RollStep;
+use roll::RollPass;
 use state::BallState;
 use state::Phase;
 use state::Termination;
 use surface::GroundSample;
 use tally::Conditions;
+use tally::Push;
 use tally::Tally;
 
-// A run's end, or a stop by a number, 20 to 23.
-pub enum RunEnd {
-    Over(Ending),
-    Ended(u32),
+// How a run came back: with its end, or stopped by a number, 20 to 23.
+pub enum RunOut {
+    Over(Ending, Tally),
+    Ended(u32, Tally),
 }
 
-pub struct GroundOut {
-    pub end: RunEnd,
-    pub tally: Tally,
+// How the ground phase came back: a run's end or stop; or a step is due that step_limit does not allow, with what the loop carries.
+pub enum GroundOut {
+    Ran(RunOut),
+    Due(Roll, Tally),
 }
 
 // The phase at t_end: the last step's, or a roll before the first.
@@ -35,26 +36,21 @@ fn last_phase(last: u8) -> Phase
 }
 
 // t_end: the point of the state, which ends the run.
-pub fn time_up(points: &mut [f64], s: BallState, phase: Phase, t: Tally) -> GroundOut
+pub fn time_up(points: &mut [f64], t: Tally, s: BallState, phase: Phase) -> RunOut
     ensures { λ r. ⌜ TimesUp s phase t (now (points .entry)) r (now (points .exit)) ⌝ }
 {
-    let push = tally::push_point(points, t.points, s, phase);
-    let Pushed::Done(n) = push else {
-        return GroundOut {
-            end: RunEnd::Ended(21),
-            tally: t,
-        };
+    let Push::Made(t1) = tally::push_point(points, t, s, phase) else {
+        return RunOut::Ended(21, t);
     };
-    GroundOut {
-        end: RunEnd::Over(Ending {
-            how: Termination::MaxTime,
-            state: s,
-        }),
-        tally: tally::counted(t, n),
-    }
+    let end = Ending {
+        how: Termination::MaxTime,
+        state: s,
+    };
+    RunOut::Over(end, t1)
 }
 
-fn roll_of(s: BallState, at: GroundSample) -> Roll
+// The first pass: the ball on the sample under it.
+pub fn roll_of(s: BallState, at: GroundSample) -> Roll
     ensures { λ r. ⌜ r ≡ rollFrom s at (s .time) 0 ⌝ }
 {
     Roll {
@@ -65,51 +61,39 @@ fn roll_of(s: BallState, at: GroundSample) -> Roll
     }
 }
 
-// Slides and rolls from the state, on the sample under it, to rest or t_end.
+// Slides and rolls, from what the loop carries to rest or t_end.
 pub fn ground(
     sheet: &[u8],
     index: &[u64],
     points: &mut [f64],
     c: Conditions,
-    state: BallState,
-    at: GroundSample,
+    roll: Roll,
     tally: Tally,
 ) -> GroundOut
     requires { ⌜ Ready (now sheet) (now index) ⌝ }
-    ensures { λ r. ⌜ Grounds (courseOf (now (sheet .entry))) c state at tally (now (points .entry)) r (now (points .exit)) ⌝ }
+    ensures { λ r. ⌜ Grounds (courseOf (now (sheet .entry))) c roll tally (now (points .entry)) r (now (points .exit)) ⌝ }
 {
-    let mut g = roll_of(state, at);
+    let mut g = roll;
     let mut t = tally;
     loop {
         let s = g.state;
         if tally::is_late(s.time, c.t_end) {
-            return time_up(points, s, last_phase(g.last), t);
+            return GroundOut::Ran(time_up(points, t, s, last_phase(g.last)));
         }
         if t.steps >= c.step_limit {
-            return GroundOut {
-                end: RunEnd::Ended(23),
-                tally: t,
-            };
+            return GroundOut::Due(g, t);
         }
         let pass = roll::ground_step(sheet, index, points, c, g, t);
-        let after = pass.tally;
-        let step = pass.step;
-        match step {
-            RollStep::On(h) => {
+        match pass {
+            RollPass::On(h, after) => {
                 g = h;
                 t = after;
             }
-            RollStep::Over(e) => {
-                return GroundOut {
-                    end: RunEnd::Over(e),
-                    tally: after,
-                };
+            RollPass::Over(e, after) => {
+                return GroundOut::Ran(RunOut::Over(e, after));
             }
-            RollStep::Ended(a) => {
-                return GroundOut {
-                    end: RunEnd::Ended(a),
-                    tally: after,
-                };
+            RollPass::Ended(a, after) => {
+                return GroundOut::Ran(RunOut::Ended(a, after));
             }
         }
     }

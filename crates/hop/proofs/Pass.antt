@@ -1,44 +1,47 @@
--- One pass of a hop, up to each place where it may end.
+-- Lemmas: one pass of a hop, what is left of it at each place where it may end.
 use Prim.Native.Nat.{ℕ}
 use mathlib.Core.Path.{_≡_}
-use mathlib.Core.Bool.{true, false}
-use mathlib.Core.Option.{Option}
+use mathlib.Core.Bool.{Bool}
+use mathlib.Core.Option.{none}
+use mathlib.Core.List.{List}
 use lib.Ieee.{Float}
 use Rattle.state.specs.declared.BallState.{BallState}
+use Rattle.state.specs.declared.Phase.the-variants.{Hop}
 use Rattle.aero.specs.declared.AeroParams.{AeroParams}
-use Rattle.look.specs.Tree.{Oracle, exec, did, Did}
-use Rattle.look.specs.declared.Rect.{Rect}
-use Rattle.state.specs.State.{stateOk}
-use Rattle.tally.specs.Language.{Ran, ran, Log, Outcome, goes, stops, Pass, stepped, tested}
-use Rattle.tally.specs.Words.{step-counted, test-ok, test-bad, went, halted}
+use Rattle.look.specs.Tree.{Oracle}
+use Rattle.tally.specs.Times.{isDue, nextAfter}
+use Rattle.tally.specs.Language.{M, Pass, again, _>>=_, _>>_, pure, when, test, pushPoint}
+use Rattle.tally.specs.Contracts.{Place, place, Reached, MakesStep}
 use Rattle.tally.specs.declared.Conditions.{Conditions}
+use Rattle.tally.specs.declared.Tally.{Tally}
+use Rattle.tally.proofs.Reached.{begun, step-made}
 use Rattle.arrival.specs.Arrival.{clearance, hopArrival}
 use Rattle.arrival.specs.declared.Arc.{Arc}
-use Rattle.hop.specs.Hop.{stepArc, stepEnd, hopNext, hopStep}
+use Rattle.hop.specs.Hop.{flight, stepArc, stepEnd, hopNext, hopStep}
 use Rattle.hop.specs.declared.Flight.{Flight}
 use Rattle.hop.specs.declared.Way.{Way}
 
-module _ (o : Oracle) (q : Rect) (c : Conditions) (aero : AeroParams) (f : Flight) (l : Log) {arc : Arc} {b : BallState}
-    (ea : arc ≡ stepArc c aero (f .state)) (eb : b ≡ stepEnd arc (f .state)) where
-  -- the step's end fails its test
-  pub end-bad : stateOk b ≡ false → did (ran (stops 22) (stepped l)) q ≡ exec o q (hopStep c aero f l)
-  unfolding hopStep
-  end-bad h = rw (← ea) (step-counted o q l _ (test-bad o q _ _ eb h))
+module _ (f : Flight) (arc : Arc) where
+  abbrev pub toArrive : BallState → Float → M (Pass Flight Way)
+  toArrive b end = hopArrival arc f.state.time end f.state.spin >>= hopNext f b
 
-  module _ (ok : stateOk b ≡ true) {x : Outcome Float} {q1 : Rect} (e1 : did (ran x (tested b (stepped l))) q1 ≡ exec o q (clearance (b .pos) (tested b (stepped l)))) where
-    -- the spot under it fails its test
-    pub end-off : {n : ℕ} → x ≡ stops n → did (ran (stops n) (tested b (stepped l))) q1 ≡ exec o q (hopStep c aero f l)
-    unfolding hopStep
-    end-off h = rw (← ea) (step-counted o q l _ (test-ok o q _ _ eb ok (halted o q (clearance (b .pos)) _ _ e1 h)))
+  abbrev pub toClear : BallState → M (Pass Flight Way)
+  toClear b = clearance b.pos >>= toArrive b
 
-    module _ {end : Float} (h1 : x ≡ goes end) {y : Outcome (Option BallState)} {q2 : Rect}
-        (e2 : did (ran y (tested b (stepped l))) q2 ≡ exec o q1 (hopArrival arc (f .state .time) end (f .state .spin) (tested b (stepped l)))) where
-      -- a spot of the arrival's looks fails its test
-      pub arrival-off : {n : ℕ} → y ≡ stops n → did (ran (stops n) (tested b (stepped l))) q2 ≡ exec o q (hopStep c aero f l)
-      unfolding hopStep
-      arrival-off h = rw (← ea) (step-counted o q l _ (test-ok o q _ _ eb ok (went o q (clearance (b .pos)) _ _ e1 h1 (halted o q1 (hopArrival arc (f .state .time) end (f .state .spin)) _ _ e2 h))))
+  abbrev pub toTest : M (Pass Flight Way)
+  toTest = test (stepEnd arc f.state) >>= toClear
 
-      -- all looks are made
-      pub step-made : {a : Option BallState} {d : Did (Ran (Pass Flight Way))} → y ≡ goes a → d ≡ exec o q2 (hopNext f b a (tested b (stepped l))) → d ≡ exec o q (hopStep c aero f l)
-      unfolding hopStep
-      step-made h p = rw (← ea) (step-counted o q l _ (test-ok o q _ _ eb ok (went o q (clearance (b .pos)) _ _ e1 h1 (went o q1 (hopArrival arc (f .state .time) end (f .state .spin)) _ _ e2 h p))))
+-- the step is made and counted
+pub stepped : {o : Oracle} {t t' : Tally} {lc lp : List Float} (c : Conditions) (aero : AeroParams) (f : Flight) {arc : Arc} → arc ≡ stepArc c aero f.state
+    → MakesStep t t' → Reached o (hopStep c aero f) (place t lc lp) 1 (toTest f arc) (place t' lc lp)
+unfolding hopStep
+stepped c aero f e r = rw (← e) (step-made _ _ begun r)
+
+-- no crossing: the sample point if it is due, and on
+abbrev pub toDue : Flight → BallState → Bool → M (Pass Flight Way)
+toDue f b due = when due (pushPoint b Hop) >> pure (again (flight b (nextAfter due f.«next_sample» f.«next_sample»)))
+
+pub not-met : {o : Oracle} {m : M (Pass Flight Way)} {a b : Place} {n : ℕ} (f : Flight) (s : BallState) {due : Bool} → Reached o m a n (hopNext f s none) b
+    → due ≡ isDue s.time f.«next_sample» → Reached o m a n (toDue f s due) b
+unfolding hopNext
+not-met f s r e = rw e r

@@ -1,35 +1,47 @@
--- What the answers of a hop stand for, and its contract.
+-- Contracts of inner functions: what the answers of a hop stand for, and the contracts.
 use mathlib.Core.List.{List}
 use lib.Ieee.{Float}
-use Rattle.state.specs.declared.BallState.{BallState}
+use Rattle.aero.specs.Aero.{fromSpinVector}
 use Rattle.aero.specs.declared.AeroParams.{AeroParams}
 use Rattle.look.specs.Tree.{Oracle}
-use Rattle.tally.specs.Language.{Outcome, goes, stops, Pass, again}
-use Rattle.tally.specs.Contracts.{overBy, Runs, Passes}
+use Rattle.tally.specs.Times.{isLate}
+use Rattle.tally.specs.Language.{Outcome, goes, stops, Pass, again, over}
+use Rattle.tally.specs.Contracts.{place, Runs, Back, came, dueWith, Loops}
 use Rattle.tally.specs.declared.Tally.{Tally}
 use Rattle.tally.specs.declared.Conditions.{Conditions}
-use Rattle.hop.specs.Hop.{hopStep, hop}
+use Rattle.hop.specs.Hop.{hopStep, hopFrom, hopOn}
 use Rattle.hop.specs.declared.Flight.{Flight}
 use Rattle.hop.specs.declared.Way.{Way}
-use Rattle.hop.specs.declared.HopEnd.{HopEnd}
-use Rattle.hop.specs.declared.HopEnd.the-variants.{Flew, Ended}
-use Rattle.hop.specs.declared.HopStep.{HopStep}
-use Rattle.hop.specs.declared.HopStep.the-variants.{On, Over}
 use Rattle.hop.specs.declared.HopPass.{HopPass}
+use Rattle.hop.specs.declared.HopPass.the-variants.{On, Over, Ended as PassEnded}
 use Rattle.hop.specs.declared.HopOut.{HopOut}
+use Rattle.hop.specs.declared.HopOut.the-variants.{Flew, Due, Ended}
 
-abbrev pub flewBy : HopEnd → Outcome Way
-flewBy (Flew w) = goes w
-flewBy (Ended n) = stops n
+abbrev pub hopped : HopPass → Outcome (Pass Flight Way)
+hopped (On f t) = goes (again f)
+hopped (Over w t) = goes (over w)
+hopped (PassEnded n t) = stops n
 
-abbrev pub hopped : HopStep → Outcome (Pass Flight Way)
-hopped (On f) = goes (again f)
-hopped (Over e) = overBy (flewBy e)
+abbrev pub afterPass : HopPass → Tally
+afterPass (On f t) = t
+afterPass (Over w t) = t
+afterPass (PassEnded n t) = t
 
--- one pass of a hop
+abbrev pub hopBack : HopOut → Back Flight Way
+hopBack (Flew w t) = came (goes w)
+hopBack (Due f t) = dueWith f
+hopBack (Ended n t) = came (stops n)
+
+abbrev pub afterHop : HopOut → Tally
+afterHop (Flew w t) = t
+afterHop (Due f t) = t
+afterHop (Ended n t) = t
+
+-- one pass of a hop, which makes one step
 abbrev pub HopPasses : Oracle → Conditions → AeroParams → Flight → Tally → List Float → HopPass → List Float → Type 0
-HopPasses o c aero f t l r m = Passes o (hopStep c aero f) t l (hopped (r .step)) (r .tally) m
+HopPasses o c aero f t l r m = (lc : List Float) → Runs o (hopStep c aero f) 1 (place t lc l) (hopped r) (place (afterPass r) lc m)
 
--- a hop
-abbrev pub HopRun : Oracle → Conditions → BallState → Tally → List Float → HopOut → List Float → Type 0
-HopRun o c start t l r m = Runs o (hop c start) t l (flewBy (r .end)) (r .tally) m
+-- a hop, from what its loop carries
+abbrev pub Hops : Oracle → Conditions → Flight → Tally → List Float → HopOut → List Float → Type 0
+Hops o c f t l r m = (lc : List Float) →
+    Loops o (hopOn c f) (λ f. isLate (f .state .time) (c .«t_end»)) (hopFrom c (fromSpinVector (f .state .spin)) 0) (place t lc l) (hopBack r) (place (afterHop r) lc m)

@@ -1,5 +1,6 @@
 -- A hop: ground.rs, fn hop, with the tests and the count of steps that 01 adds.
 use Prim.Native.Nat.{ℕ}
+use mathlib.Core.Bool.{false}
 use mathlib.Core.Option.{Option, none, some}
 use lib.Ieee.{Float}
 use Rattle.number.specs.Ops.{_⊕_, _⊖_}
@@ -10,8 +11,9 @@ use Rattle.aero.specs.declared.AeroParams.{AeroParams}
 use Rattle.rk4.specs.declared.State.{State}
 use Rattle.flight.specs.Flight.{flightStep}
 use Rattle.state.specs.declared.Phase.the-variants.{Hop}
+use Rattle.look.specs.Tree.{Made}
 use Rattle.tally.specs.Times.{sampleInterval, isLate, isDue, nextAfter}
-use Rattle.tally.specs.Language.{M, _>>=_, _>>_, pure, when, countStep, test, pushPoint, stepsLeft, Pass, again, over, loop}
+use Rattle.tally.specs.Language.{M, _>>=_, _>>_, pure, when, makeStep, test, pushPoint, stepsLeft, Pass, again, over, loop}
 use Rattle.tally.specs.declared.Conditions.{Conditions}
 use Rattle.arrival.specs.Arrival.{clearance, hopArrival}
 use Rattle.arrival.specs.declared.Arc.{Arc}
@@ -47,12 +49,16 @@ hopNext f b none = do
   when due (pushPoint b Hop)
   pure (again (flight b (nextAfter due f.«next_sample» f.«next_sample»)))
 
+-- what a hop step made of a state: the state at its end
+abbrev pub flownTo : BallState → BallState → Made
+flownTo state end = record { from = state; to = end; phase = Hop; rolling = false }
+
 -- one pass
 unfoldable pub hopStep : Conditions → AeroParams → Flight → M (Pass Flight Way)
 hopStep c aero f = do
   let arc = stepArc c aero f.state
-  countStep
-  b ← test (stepEnd arc f.state)
+  s ← makeStep (flownTo f.state (stepEnd arc f.state))
+  b ← test s.to
   end ← clearance b.pos
   arrival ← hopArrival arc f.state.time end f.state.spin
   hopNext f b arrival
@@ -61,7 +67,11 @@ hopStep c aero f = do
 unfoldable pub hopFrom : Conditions → AeroParams → ℕ → Flight → M Way
 hopFrom c aero n = loop n (λ f. isLate f.state.time c.«t_end») (λ f. pure (Late f.state)) (hopStep c aero)
 
-unfoldable pub hop : Conditions → BallState → M Way
-hop c start = do
+-- from what the loop carries
+abbrev pub hopOn : Conditions → Flight → M Way
+hopOn c f = do
   n ← stepsLeft c
-  hopFrom c (fromSpinVector start.spin) n (flight start (start.time ⊕ sampleInterval))
+  hopFrom c (fromSpinVector f.state.spin) n f
+
+unfoldable pub hop : Conditions → BallState → M Way
+hop c start = hopOn c (flight start (start.time ⊕ sampleInterval))

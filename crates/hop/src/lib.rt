@@ -6,17 +6,18 @@ ghost use Rattle.course.specs.Sheet.{courseOf};
 ghost use Rattle.course.specs.Index.{Ready};
 ghost use Rattle.tally.specs.Times.{sampleInterval};
 ghost use Rattle.hop.specs.Hop.{stepArc, stepEnd, flight};
-ghost use Rattle.hop.specs.Contracts.{HopPasses, HopRun};
+ghost use Rattle.hop.specs.Contracts.{HopPasses, Hops};
 use aero::AeroParams;
 use arrival::Arc;
-use arrival::Arrival;
-use arrival::Value;
-use records::Pushed;
+use arrival::Arrived;
+use arrival::Cleared;
 use rk4::State;
 use state::BallState;
 use state::Phase;
 use tally::Conditions;
+use tally::Push;
 use tally::Tally;
+use tally::Tested;
 
 const SAMPLE_INTERVAL: f64 = 0.01;
 
@@ -26,31 +27,24 @@ pub enum Way {
     Late(BallState),
 }
 
-// A hop, or a stop by a number, 21 to 23.
-pub enum HopEnd {
-    Flew(Way),
-    Ended(u32),
-}
-
-pub struct HopOut {
-    pub end: HopEnd,
-    pub tally: Tally,
-}
-
 // What a hop carries from pass to pass.
 pub struct Flight {
     pub state: BallState,
     pub next_sample: f64,
 }
 
-pub enum HopStep {
-    On(Flight),
-    Over(HopEnd),
+// A pass goes on, ends where the ball meets the ground, or stops by a number, 21 or 22.
+pub enum HopPass {
+    On(Flight, Tally),
+    Over(Way, Tally),
+    Ended(u32, Tally),
 }
 
-pub struct HopPass {
-    pub step: HopStep,
-    pub tally: Tally,
+// How a hop came back: flown; a step is due that step_limit does not allow, with what the loop carries; or stopped by a number, 21 or 22.
+pub enum HopOut {
+    Flew(Way, Tally),
+    Due(Flight, Tally),
+    Ended(u32, Tally),
 }
 
 fn step_arc(c: Conditions, aero: AeroParams, s: BallState) -> Arc
@@ -103,71 +97,41 @@ fn hop_step(
     let state = f.state;
     let arc = step_arc(c, aero, state);
     let b = step_end(arc, state);
-    let t1 = tally::stepped(t);
-    if !state::state_ok(b) {
-        return HopPass {
-            step: HopStep::Over(HopEnd::Ended(22)),
-            tally: t1,
-        };
-    }
-    let t2 = tally::tested(t1, b);
-    let rect = t.rect;
+    let t1 = tally::count_step(t);
+    let Tested::Good(t2) = tally::test(t1, b) else {
+        return HopPass::Ended(22, t1);
+    };
     let pos = b.pos;
-    let seen = arrival::clearance(sheet, index, rect, pos);
-    let q = seen.rect;
-    let what = seen.what;
-    let t3 = tally::looked(t2, q);
-    let Value::At(end) = what else {
-        return HopPass {
-            step: HopStep::Over(HopEnd::Ended(22)),
-            tally: t3,
-        };
+    let Cleared::At(end, t3) = arrival::clear(sheet, index, t2, pos) else {
+        return HopPass::Ended(22, t2);
     };
     let spin = state.spin;
-    let met = arrival::hop_arrival(sheet, index, q, arc, state.time, end, spin);
-    let p = met.rect;
-    let how = met.how;
-    let t4 = tally::looked(t3, p);
-    match how {
-        Arrival::Off => HopPass {
-            step: HopStep::Over(HopEnd::Ended(22)),
-            tally: t4,
-        },
-        Arrival::At(s) => {
-            if state::state_ok(s) {
-                HopPass {
-                    step: HopStep::Over(HopEnd::Flew(Way::Arrived(s))),
-                    tally: tally::tested(t4, s),
-                }
-            } else {
-                HopPass {
-                    step: HopStep::Over(HopEnd::Ended(22)),
-                    tally: t4,
-                }
-            }
+    let met = arrival::arrive(sheet, index, t3, arc, state.time, end, spin);
+    match met {
+        Arrived::Off(t4) => HopPass::Ended(22, t4),
+        Arrived::At(s, t4) => {
+            let Tested::Good(t5) = tally::test(t4, s) else {
+                return HopPass::Ended(22, t4);
+            };
+            HopPass::Over(Way::Arrived(s), t5)
         }
-        Arrival::Nothing => {
+        Arrived::Nothing(t4) => {
             let due = tally::is_due(b.time, f.next_sample);
-            let push = tally::push_due(due, points, t.points, b, Phase::Hop);
-            let Pushed::Done(n) = push else {
-                return HopPass {
-                    step: HopStep::Over(HopEnd::Ended(21)),
-                    tally: t4,
-                };
+            let Push::Made(t5) = tally::push_due(due, points, t4, b, Phase::Hop) else {
+                return HopPass::Ended(21, t4);
             };
             let next_sample = tally::next_after(due, f.next_sample, f.next_sample);
-            HopPass {
-                step: HopStep::On(Flight {
-                    state: b,
-                    next_sample,
-                }),
-                tally: tally::counted(t4, n),
-            }
+            let on = Flight {
+                state: b,
+                next_sample,
+            };
+            HopPass::On(on, t5)
         }
     }
 }
 
-fn flight_of(start: BallState) -> Flight
+// The first pass: the next sample point is one interval after the start.
+pub fn flight_of(start: BallState) -> Flight
     ensures { λ r. ⌜ r ≡ flight start (start .time ⊕ sampleInterval) ⌝ }
 {
     Flight {
@@ -176,49 +140,42 @@ fn flight_of(start: BallState) -> Flight
     }
 }
 
-// Flight from a rebound until the ball meets the ground again, or t_end comes first.
+// Flight, from what the loop carries until the ball meets the ground again, or t_end comes first. The spin is that of the start.
 pub fn hop(
     sheet: &[u8],
     index: &[u64],
     points: &mut [f64],
     c: Conditions,
-    start: BallState,
+    flight: Flight,
     tally: Tally,
 ) -> HopOut
     requires { ⌜ Ready (now sheet) (now index) ⌝ }
-    ensures { λ r. ⌜ HopRun (courseOf (now (sheet .entry))) c start tally (now (points .entry)) r (now (points .exit)) ⌝ }
+    ensures { λ r. ⌜ Hops (courseOf (now (sheet .entry))) c flight tally (now (points .entry)) r (now (points .exit)) ⌝ }
 {
+    let start = flight.state;
     let spin = start.spin;
     let aero = AeroParams::from_spin_vector(spin);
-    let mut f = flight_of(start);
+    let mut f = flight;
     let mut t = tally;
     loop {
         let state = f.state;
         if tally::is_late(state.time, c.t_end) {
-            return HopOut {
-                end: HopEnd::Flew(Way::Late(state)),
-                tally: t,
-            };
+            return HopOut::Flew(Way::Late(state), t);
         }
         if t.steps >= c.step_limit {
-            return HopOut {
-                end: HopEnd::Ended(23),
-                tally: t,
-            };
+            return HopOut::Due(f, t);
         }
         let pass = hop_step(sheet, index, points, c, aero, f, t);
-        let after = pass.tally;
-        let step = pass.step;
-        match step {
-            HopStep::On(g) => {
+        match pass {
+            HopPass::On(g, after) => {
                 f = g;
                 t = after;
             }
-            HopStep::Over(e) => {
-                return HopOut {
-                    end: e,
-                    tally: after,
-                };
+            HopPass::Over(way, after) => {
+                return HopOut::Flew(way, after);
+            }
+            HopPass::Ended(a, after) => {
+                return HopOut::Ended(a, after);
             }
         }
     }

@@ -30,7 +30,7 @@ same-run o p r (look x z c) h =
     let f = first o p (spotOk x z) s (looks o (c (seen o x z))) h in
     let g = same-run o p (widenWhere (spotOk x z) r x z) (c (seen o x z)) (f .1) in
     (rw (f .0) (g .0), rw (f .0) (ap (note (spotOk x z) s) (g .1)))
-same-run o p r (step t) h = same-run o p r t h
+same-run o p r (step m t) h = same-run o p r t h
 
 -- the rectangle, reckoned from the list of looks
 unfoldable pub rectFrom : Rect → List Spot → Rect
@@ -48,4 +48,4 @@ exec-is o r (done a) = refl
 exec-is o r (look x z c) =
     rw (← from-note (spotOk x z) r (record { x = x; z = z }) (looks o (c (seen o x z))))
     (exec-is o (widenWhere (spotOk x z) r x z) (c (seen o x z)))
-exec-is o r (step t) = exec-is o r t
+exec-is o r (step m t) = exec-is o r t

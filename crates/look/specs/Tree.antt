@@ -4,6 +4,8 @@ use mathlib.Core.List.{List, [], _∷_, _++_}
 use mathlib.Core.Bool.{Bool, true, false}
 use lib.Ieee.{Float}
 use Rattle.look.specs.declared.Rect.{Rect}
+use Rattle.state.specs.declared.BallState.{BallState}
+use Rattle.state.specs.declared.Phase.{Phase}
 use Rattle.surface.specs.declared.GroundSample.{GroundSample}
 use Rattle.look.specs.declared.Look.{Look}
 use Rattle.look.specs.declared.Look.the-variants.{Off, Saw}
@@ -14,11 +16,18 @@ pub record Spot : Type 0 where
   pub x : Float
   pub z : Float
 
--- It is done with an answer, or it looks at a spot and goes on by what comes of the look, or a step (01: one pass) is due.
+-- what a step made: the state that it took and the one that it made of it, its phase, and whether the ball rolls on
+pub record Made : Type 0 where
+  pub from : BallState
+  pub to : BallState
+  pub phase : Phase
+  pub rolling : Bool
+
+-- It is done with an answer, or it looks at a spot and goes on by what comes of the look, or a step (01: one pass) is made.
 pub data Tree (A : Type 0) : Type 0 where
   done : A → Tree A
   look : Float → Float → (Look → Tree A) → Tree A
-  step : Tree A → Tree A
+  step : Made → Tree A → Tree A
 
 -- a course, as the sample that each look finds
 abbrev pub Oracle : Type 0
@@ -41,7 +50,7 @@ note false p l = l
 unfoldable pub bind : {A B : Type 0} → Tree A → (A → Tree B) → Tree B
 bind (done a) k = k a
 bind (look x z c) k = look x z (λ s. bind (c s) k)
-bind (step t) k = step (bind t k)
+bind (step s t) k = step s (bind t k)
 
 -- one look
 abbrev pub lookTree : Float → Float → Tree Look
@@ -51,12 +60,12 @@ lookTree x z = look x z done
 unfoldable pub run : {A : Type 0} → Oracle → Tree A → A
 run o (done a) = a
 run o (look x z c) = run o (c (seen o x z))
-run o (step t) = run o t
+run o (step s t) = run o t
 
 unfoldable pub looks : {A : Type 0} → Oracle → Tree A → List Spot
 looks o (done a) = []
 looks o (look x z c) = note (spotOk x z) (record { x = x; z = z }) (looks o (c (seen o x z)))
-looks o (step t) = looks o t
+looks o (step s t) = looks o t
 
 -- the answer, and the rectangle that the looks widen
 pub record Did (A : Type 0) : Type 0 where
@@ -73,13 +82,13 @@ widenWhere false r x z = r
 unfoldable pub exec : {A : Type 0} → Oracle → Rect → Tree A → Did A
 exec o r (done a) = did a r
 exec o r (look x z c) = exec o (widenWhere (spotOk x z) r x z) (c (seen o x z))
-exec o r (step t) = exec o r t
+exec o r (step s t) = exec o r t
 
 pub run-bind : {A B : Type 0} (o : Oracle) (t : Tree A) (k : A → Tree B) → run o (bind t k) ≡ run o (k (run o t))
 unfolding run bind
 run-bind o (done a) k = refl
 run-bind o (look x z c) k = run-bind o (c (seen o x z)) k
-run-bind o (step t) k = run-bind o t k
+run-bind o (step s t) k = run-bind o t k
 
 note-append : {X : Type 0} (b : Bool) (p : X) (l m : List X) → note b p (l ++ m) ≡ note b p l ++ m
 note-append true p l m = refl
@@ -89,14 +98,14 @@ pub looks-bind : {A B : Type 0} (o : Oracle) (t : Tree A) (k : A → Tree B) →
 unfolding run bind looks
 looks-bind o (done a) k = refl
 looks-bind o (look x z c) k = rw (looks-bind o (c (seen o x z)) k) (note-append (spotOk x z) _ _ _)
-looks-bind o (step t) k = looks-bind o t k
+looks-bind o (step s t) k = looks-bind o t k
 
 pub exec-bind : {A B : Type 0} (o : Oracle) (r : Rect) (t : Tree A) (k : A → Tree B)
     → exec o r (bind t k) ≡ exec o (exec o r t .rect) (k (exec o r t .value))
 unfolding exec bind
 exec-bind o r (done a) k = refl
 exec-bind o r (look x z c) k = exec-bind o (widenWhere (spotOk x z) r x z) (c (seen o x z)) k
-exec-bind o r (step t) k = exec-bind o r t k
+exec-bind o r (step s t) k = exec-bind o r t k
 
 -- What a caller's proof goes by. A callee's contract is `did a r' ≡ exec o r t`; what it answered is a'; so the rest, from there, is the whole.
 pub after : {A B : Type 0} (o : Oracle) (r : Rect) (t : Tree A) (k : A → Tree B) {a a' : A} {r' : Rect}

@@ -63,7 +63,7 @@ looks-pass : {A : Type 0} (o : Oracle) (t : Tree A) → All (λ s. T (spotOk (s 
 unfolding looks
 looks-pass o (done a) = tt
 looks-pass o (look x z c) = note-all (λ s. T (spotOk (s .x) (s .z))) (spotOk x z) (record { x = x; z = z }) _ (λ h. h) (looks-pass o (c (seen o x z)))
-looks-pass o (step t) = looks-pass o t
+looks-pass o (step m t) = looks-pass o t
 
 pass-parts : (s : Spot) → T (spotOk (s .x) (s .z)) → Both Double s × Both Ok s
 unfolding spotOk

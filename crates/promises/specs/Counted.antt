@@ -22,12 +22,12 @@ use Rattle.search.specs.Evaluations.{Counts, every-at-most-200}
 use Rattle.search.specs.declared.Bracket.{Bracket}
 use Rattle.look.specs.Rect.{spotOk}
 use Rattle.look.specs.Resume.{steps as stepsOf, steps-bind}
-use Rattle.look.specs.Tree.{Oracle, run, bind, answer}
+use Rattle.look.specs.Tree.{Made as Step, Oracle, run, bind, answer}
 use Rattle.course.specs.Sheet.{courseOf}
 use Rattle.records.specs.Records.{Put, full, put, pushed}
 use Rattle.tally.specs.Times.{isLate}
 use Rattle.tally.specs.Language.{tested, point, contact, M, Log, Outcome, goes, stops, Ran, onward, _>>=_, pure, stopWith, if_then_else_, when, look, test}
-use Rattle.tally.specs.Language.{seenAt, pointOf, contactOf, pushPoint, pushContact, mark, truncate, countStep, stepsLeft, inM, loop, Pass, again, over}
+use Rattle.tally.specs.Language.{seenAt, pointOf, contactOf, pushPoint, pushContact, mark, truncate, makeStep, stepsLeft, inM, loop, Pass, again, over}
 use Rattle.tally.specs.declared.Conditions.{Conditions}
 use Rattle.shot.specs.declared.Shot.{Shot}
 use Rattle.arrival.specs.declared.Arc.{Arc}
@@ -96,7 +96,7 @@ module _ (o : Oracle) where
   makes-if n m m' true h h' = h
   makes-if n m m' false h h' = h'
 
-  -- ---- the words: only countStep makes one
+  -- ---- the words: only makeStep makes one
   makes-look : (x z : Float) → Makes 0 (look x z)
   unfolding look bind stepsOf
   makes-look x z l = go (spotOk x z)
@@ -113,9 +113,9 @@ module _ (o : Oracle) where
       go true = refl
       go false = refl
 
-  makes-count : Makes 1 countStep
-  unfolding countStep stepsOf
-  makes-count l = refl
+  makes-count : (s : Step) → Makes 1 (makeStep s)
+  unfolding makeStep stepsOf
+  makes-count s l = refl
 
   makes-when : (b : Bool) (m : M Unit) → Makes 0 m → Makes 0 (when b m)
   unfolding when
@@ -199,16 +199,16 @@ module _ (o : Oracle) where
   makes-hopStep : (c : Conditions) (aero : AeroParams) (f : Flight) → Makes 1 (hopStep c aero f)
   unfolding hopStep
   makes-hopStep c aero f =
-      makes-then countStep _ 1 makes-count (λ _. makes-then (test _) _ 0 (makes-test _) (λ b. makes-then (clearance _) _ 0 (makes-clearance _) (λ end.
+      makes-then (makeStep _) _ 1 (makes-count _) (λ s. makes-then (test _) _ 0 (makes-test _) (λ b. makes-then (clearance _) _ 0 (makes-clearance _) (λ end.
       makes-then (hopArrival _ _ _ _) _ 0 (makes-hopArrival _ _ _ _) (makes-hopNext f b))))
 
   -- ---- so does a step of the ground
   makes-groundStep : (c : Conditions) (g : Roll) → Makes 1 (groundStep c g)
   unfolding groundStep
   makes-groundStep c g =
-      makes-then countStep _ 1 makes-count (λ _. makes-then (when _ _) _ 0 (makes-when _ _ (makes-point _ _))
+      makes-then (makeStep _) _ 1 (makes-count _) (λ s. makes-then (when _ _) _ 0 (makes-when _ _ (makes-point _ _))
       (λ _. makes-then (look _ _) _ 0 (makes-look _ _) (λ under.
-      makes-then (test _) _ 0 (makes-test _) (λ b. makes-if 0 _ _ (not (heldOf (stepOn c g) under)) (makes-pure _)
+      makes-then (test _) _ 0 (makes-test _) (λ b. makes-if 0 _ _ (not (heldOf (s .phase) (s .to) under)) (makes-pure _)
       (makes-then (pushPoint _ _) _ 0 (makes-point b _) (λ _. makes-pure _))))))
 
   makes-timeUp : (s : BallState) (phase : Phase) → Makes 0 (timeUp s phase)

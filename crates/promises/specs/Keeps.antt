@@ -9,10 +9,10 @@ use lib.ListN.{length, take, length-append}
 use Rattle.state.specs.declared.BallState.{BallState}
 use Rattle.state.specs.declared.Phase.{Phase}
 use Rattle.surface.specs.declared.GroundSample.{GroundSample}
-use Rattle.look.specs.Tree.{Tree, done, look as lookNode, step, Oracle, Spot, seen, run}
+use Rattle.look.specs.Tree.{Made, Tree, done, look as lookNode, step, Oracle, Spot, seen, run}
 use Rattle.records.specs.Records.{Records}
 use Rattle.tally.specs.Language.{M, Log, Lent, Outcome, goes, stops, Ran, tested, withPoints, withContacts, pointOf, contactOf}
-use Rattle.tally.specs.Language.{look, test, pushPoint, pushContact, mark, truncate, countStep, stepsLeft, when}
+use Rattle.tally.specs.Language.{look, test, pushPoint, pushContact, mark, truncate, makeStep, stepsLeft, when}
 use Rattle.tally.specs.declared.Conditions.{Conditions}
 use Rattle.promises.specs.Terms.{Each, Ok, PointOf, SampleOf, ContactOf, GivenBy, Follows, Failed, of-spot, of-state}
 use Rattle.tally.specs.Triple.{Past, spot, After, reach, reaches, Triple}
@@ -58,7 +58,7 @@ outcome-is : {A : Type 0} (o : Oracle) (t : Tree (Ran A)) (n : ℕ) (s f : List 
 unfolding reach run
 outcome-is o (done r) n s f = refl
 outcome-is o (lookNode x z c) n s f = outcome-is o (c (seen o x z)) n _ _
-outcome-is o (step t) n s f = outcome-is o t (suc n) s f
+outcome-is o (step m t) n s f = outcome-is o t (suc n) s f
 
 module _ {o : Oracle} {A : Type 0} where
   pub t-given : {P : Past → Type 0} {m : M A} {Q : A → Past → Type 0} {R : ℕ → Past → Type 0} → Triple o P m Q R → Triple o P m (λ a w. Q a w × GivenBy o m a) R
@@ -186,8 +186,8 @@ module _ {e : Setting} where
     a-when b t = t-when b t (λ w a. a)
 
   module _ {G : ℕ → Type 0} {g : BallState} where
-    pub a-step : (n : ℕ) → Keeps e (At e (Within e (suc n) G) g) countStep (λ _. At e (Within e n G) g)
-    a-step n = t-step (λ w a. let h = a .sound in let d = a .frame .0 in let i = h .counted .0 in
+    pub a-step : (n : ℕ) (s : Made) → Keeps e (At e (Within e (suc n) G) g) (makeStep s) (λ _. At e (Within e n G) g)
+    a-step n s = t-step s (λ w a. let h = a .sound in let d = a .frame .0 in let i = h .counted .0 in
         record {
           sound = record {
             good = h .good;

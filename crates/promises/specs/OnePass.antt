@@ -21,9 +21,9 @@ use Rattle.search.specs.Evaluations.{largest}
 use Rattle.slide.specs.RootSearch.{slide-time-within}
 use Rattle.rolling.specs.Times.{contact-step-onward}
 use Rattle.contact.specs.Contact.{ontoOf}
-use Rattle.look.specs.Tree.{run, bind}
+use Rattle.look.specs.Tree.{Made, run, bind}
 use Rattle.tally.specs.Times.{timeEps, isLate}
-use Rattle.tally.specs.Language.{tested, M, onward, _>>=_, if_then_else_, when, look, test, pushPoint, countStep, Pass, again, over}
+use Rattle.tally.specs.Language.{stepped, tested, M, onward, _>>=_, if_then_else_, when, look, test, pushPoint, makeStep, Pass, again, over}
 use Rattle.tally.specs.declared.Conditions.{Conditions}
 use Rattle.arrival.specs.declared.Arc.{Arc}
 use Rattle.arrival.specs.Arrival.{clearance, hopArrival}
@@ -66,6 +66,11 @@ given-test P b k h o l = go (stateOk b) refl
     go : (t : Bool) → stateOk b ≡ t → Goes P (run o ((test b >>= k) l) .outcome)
     go true e = rw e (h e o (tested b l))
     go false e = rw e tt
+
+-- a step is made, and what follows goes on with what it made
+pub given-made : {B : Type 0} (P : B → Type 0) (s : Made) (k : Made → M B) → Gives P (k s) → Gives P (makeStep s >>= k)
+unfolding makeStep _>>=_ bind run
+given-made P s k h o l = h o (stepped l)
 
 pub time-either : (b : Bool) (x y : BallState) (t : Float) → x .time ≡ t → y .time ≡ t → cond b x y .time ≡ t
 time-either true x y t p q = p
@@ -146,7 +151,7 @@ module _ (c : Conditions) (paced : Paced c) where
     hop-leads : Gives Leads (hopStep c aero f)
     unfolding hopStep stepEnd
     hop-leads =
-        gives-bind Leads countStep _ (λ _. given-test Leads (stepEnd arc (f .state)) _ (λ ok. gives-bind Leads (clearance _) _ (λ end.
+        given-made Leads _ _ (given-test Leads (stepEnd arc (f .state)) _ (λ ok. gives-bind Leads (clearance _) _ (λ end.
         gives-then (IfSome (ArrivesIn t (arc .h))) Leads (hopArrival arc t end (f .state .spin)) _
         (next-leads (stepEnd arc (f .state))
         (later (f .state) timed due (stepEnd arc (f .state))
@@ -164,7 +169,7 @@ module _ (c : Conditions) (paced : Paced c) where
     abbrev from-0 : T (le (dec 0 1) (h (g .state) timed due))
     from-0 = lt-le (dec 0 1) (h (g .state) timed due) (due-step (g .state) timed due .above-0)
 
-    put-down : (under : GroundSample) → Onward (g .state .time) (putDown c g (stepOn c g) under .time)
+    put-down : (under : GroundSample) → Onward (g .state .time) (putDown c g (stepOn c g .state) (stepOn c g .rolling) under .time)
     unfolding putDown stepOn
     put-down under =
         rw (onto-time (stepOn c g .state) under (g .«at» .normal) (stepOn c g .rolling) (radiusOf (c .ball)))
@@ -174,10 +179,10 @@ module _ (c : Conditions) (paced : Paced c) where
     ground-leads : Gives Leads' (groundStep c g)
     unfolding groundStep
     ground-leads =
-        gives-bind Leads' countStep _ (λ _. gives-bind Leads' (when _ _) _ (λ _. gives-bind Leads' (look _ _) _ (λ under.
-        given-test Leads' (putDown c g (stepOn c g) under) _ (λ ok.
-        let w = later (g .state) timed due (putDown c g (stepOn c g) under) (put-down under) ok in
-        either (Gives Leads') (not (heldOf (stepOn c g) under)) (gives-pure Leads' (again _) w)
+        given-made Leads' _ _ (gives-bind Leads' (when _ _) _ (λ _. gives-bind Leads' (look _ _) _ (λ under.
+        given-test Leads' (putDown c g (stepOn c g .state) (stepOn c g .rolling) under) _ (λ ok.
+        let w = later (g .state) timed due (putDown c g (stepOn c g .state) (stepOn c g .rolling) under) (put-down under) ok in
+        either (Gives Leads') (not (heldOf (stepOn c g .phase) (stepOn c g .state) under)) (gives-pure Leads' (again _) w)
         (gives-bind Leads' (pushPoint _ _) _ (λ _. gives-pure Leads' (over _) w))))))
 
     pub ground-pass : GroundBracket c g

@@ -44,7 +44,7 @@ use Rattle.strike.specs.declared.Struck.{Struck}
 use Rattle.strike.specs.declared.Flown.{Flown}
 use Rattle.strike.specs.declared.Flown.the-variants.{Hop, Ground}
 use Rattle.train.specs.Train.{lastImpact, toGround, trainFrom, train}
-use Rattle.tally.specs.Triple.{Past, After, OnWith, Triple, t-before, t-after, t-bind, t-then, t-fact, t-know, t-of, t-if, t-pure, t-same, t-loop}
+use Rattle.tally.specs.Triple.{t-made, Past, After, OnWith, Triple, t-before, t-after, t-bind, t-then, t-fact, t-know, t-of, t-if, t-pure, t-same, t-loop}
 use Rattle.promises.specs.Terms.{Answer, SampleOf, Ok, under, GivenBy, struckAt, arcFrom, Grounded, at-once, after-hop}
 use Rattle.promises.specs.Terms.{impact, hop-step, arrival, drop as dropping, ground-step}
 use Rattle.promises.specs.Keeps.{Setting, Keeps, At, Within, at-ok, at-frame, t-given}
@@ -128,11 +128,11 @@ drop-stays c hit =
     one-of (λ x. SameSpot x (hit .out)) (le (vlength (slipOf v (hit .out .spin) n (radiusOf (c .ball)))) (c .physics .«roll_threshold»)) _ _
     (record { x = refl; z = refl }) (record { x = refl; z = refl })
 
-put-stays : (c : Conditions) (r : Roll) (t : Stepped) (g : GroundSample) → SameSpot (putDown c r t g) (t .state)
+put-stays : (c : Conditions) (r : Roll) (s : BallState) (rolling : Bool) (g : GroundSample) → SameSpot (putDown c r s rolling g) s
 unfolding putDown ontoOf
-put-stays c r t g =
-    one-of (λ x. SameSpot x (t .state)) (sameVec (g .normal) (r .«at» .normal) && eq (t .state .pos .y) (g .height)) _ _
-    (same (t .state)) (record { x = refl; z = refl })
+put-stays c r s rolling g =
+    one-of (λ x. SameSpot x s) (sameVec (g .normal) (r .«at» .normal) && eq (s .pos .y) (g .height)) _ _
+    (same s) (record { x = refl; z = refl })
 
 same-under : (o : Oracle) (a b : BallState) → SameSpot a b → under o a ≡ under o b
 same-under o a b h = rw (h .x, h .z)
@@ -182,7 +182,7 @@ module _ (e : Setting) where
 
     f-hopStep : (spin : DVec3) (n : ℕ) (f : Flight) → Keeps e (Flying spin (suc n) f) (hopStep c (fromSpinVector spin) f) (OnWith (Flying spin n) Flew)
     unfolding hopStep
-    f-hopStep spin n f = t-fact (λ h. rw (← h) (t-know (λ w. at-ok) (λ ok. t-bind (a-step n) (λ _. t-then (a-test _ (hop-step refl)) (λ b d.
+    f-hopStep spin n f = t-fact (λ h. rw (← h) (t-know (λ w. at-ok) (λ ok. t-made (a-step n _) (t-then (a-test _ (hop-step refl)) (λ b d.
         t-then (l-clearance a-look _) (λ end v. t-then (t-given (l-hopArrival a-look _ _ _ _)) (λ a l. f-hopNext n f b ok d a (rw v at l))))))))
 
     f-hop : (start : BallState) → Keeps e (Only start) (hop c start) Flew
@@ -205,9 +205,9 @@ module _ (e : Setting) where
 
     f-groundStep : (n : ℕ) (r : Roll) → Keeps e (Rolling (suc n) r) (groundStep c r) (OnWith (Rolling n) Over)
     unfolding groundStep
-    f-groundStep n r = t-fact (λ on. t-bind (a-step n) (λ _. t-bind (a-when _ (a-point-own _)) (λ _. t-then (a-look _ _) (λ below h.
-        t-then (a-test _ (ground-step r refl on (rw h))) (λ b d. t-if (not (heldOf (stepOn c r) below))
-        (λ _. t-pure (λ w a. (a, h ∙ sym (ap (under (e .course)) d ∙ same-under (e .course) _ _ (put-stays c r (stepOn c r) below)))))
+    f-groundStep n r = t-fact (λ on. t-made (a-step n _) (t-bind (a-when _ (a-point-own _)) (λ _. t-then (a-look _ _) (λ below h.
+        t-then (a-test _ (ground-step r refl on (rw h))) (λ b d. t-if (not (heldOf (stepOn c r .phase) (stepOn c r .state) below))
+        (λ _. t-pure (λ w a. (a, h ∙ sym (ap (under (e .course)) d ∙ same-under (e .course) _ _ (put-stays c r (stepOn c r .state) (stepOn c r .rolling) below)))))
         (λ _. t-bind (a-point-own _) (λ _. t-pure (λ w a. (at-frame (λ j k h. h .1) a, refl)))))))))
 
     f-ground : (state : BallState) (s : GroundSample) → s ≡ under (e .course) state → Keeps e (Only state) (ground c state s) Over

@@ -103,7 +103,7 @@ module _ (o : Oracle) where
       -- the drop after the impact of f
       drop : (f : BallState) → Ok f → Grounded (struckAt f .out) g → s ≡ dropped c (struckAt f) → Follows g s
       -- the ground step from g, on the ground under it
-      ground-step : (r : Roll) → r .state ≡ g → r .«at» ≡ under g → s ≡ putDown c r (stepOn c r) (under (stepOn c r .state)) → Follows g s
+      ground-step : (r : Roll) → r .state ≡ g → r .«at» ≡ under g → s ≡ putDown c r (stepOn c r .state) (stepOn c r .rolling) (under (stepOn c r .state)) → Follows g s
 
     -- the test that failed: of a spot, the one that failed; or of a state that followed the last good one, each spot having passed
     pub data Failed (off : List Spot) (good : BallState) : Type 0 where

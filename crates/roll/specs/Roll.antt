@@ -14,8 +14,9 @@ use Rattle.rolling.specs.ContactStep.{contactStepOf}
 use Rattle.state.specs.declared.Phase.{Phase}
 use Rattle.state.specs.declared.Phase.the-variants.{Hop, Slide, Roll as InRoll}
 use Rattle.rolling.specs.declared.Stepped.{Stepped}
+use Rattle.look.specs.Tree.{Made}
 use Rattle.tally.specs.Times.{isDue, nextAfter}
-use Rattle.tally.specs.Language.{M, _>>=_, _>>_, pure, if_then_else_, when, countStep, look, test, pushPoint, Pass, again, over}
+use Rattle.tally.specs.Language.{M, _>>=_, _>>_, pure, if_then_else_, when, makeStep, look, test, pushPoint, Pass, again, over}
 use Rattle.tally.specs.declared.Conditions.{Conditions}
 use Rattle.roll.specs.declared.Roll.{Roll}
 use Rattle.roll.specs.declared.Ending.{Ending}
@@ -50,22 +51,25 @@ inRoll Slide = false
 inRoll InRoll = true
 
 -- `stopped && under.holds_at_rest()`, where `stopped = phase == Phase::Roll && next.vel == DVec3::ZERO`
-unfoldable pub heldOf : Stepped → GroundSample → Bool
-heldOf s under = (inRoll s.phase && sameVec s.state.vel zero3) && sampleHolds under
+unfoldable pub heldOf : Phase → BallState → GroundSample → Bool
+heldOf phase next under = (inRoll phase && sameVec next.vel zero3) && sampleHolds under
 
 -- `onto_surface(&next, &under, at.normal, rolling, radius)`
-unfoldable pub putDown : Conditions → Roll → Stepped → GroundSample → BallState
-putDown c g s under = ontoOf s.state under g.«at».normal s.rolling (radiusOf c.ball)
+unfoldable pub putDown : Conditions → Roll → BallState → Bool → GroundSample → BallState
+putDown c g next rolling under = ontoOf next under g.«at».normal rolling (radiusOf c.ball)
+
+-- what a contact step made of a state
+abbrev pub madeOf : BallState → Stepped → Made
+madeOf state s = record { from = state; to = s .state; phase = s .phase; rolling = s .rolling }
 
 -- one pass
 unfoldable pub groundStep : Conditions → Roll → M (Pass Roll Ending)
 groundStep c g = do
-  let s = stepOn c g
-  countStep
+  s ← makeStep (madeOf g.state (stepOn c g))
   let due = pointDue g.state.time g.«next_sample» g.last s.phase
   when due (pushPoint g.state s.phase)
-  under ← look s.state.pos.x s.state.pos.z
-  b ← test (putDown c g s under)
-  if not (heldOf s under) then pure (again (roll b under (nextAfter due g.«next_sample» g.state.time) (lastOf s.phase))) else do
+  under ← look s.to.pos.x s.to.pos.z
+  b ← test (putDown c g s.to s.rolling under)
+  if not (heldOf s.phase s.to under) then pure (again (roll b under (nextAfter due g.«next_sample» g.state.time) (lastOf s.phase))) else do
     pushPoint b InRoll
     pure (over (ending Rest b))

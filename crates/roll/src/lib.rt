@@ -5,15 +5,16 @@ ghost use Rattle.course.specs.Sheet.{courseOf};
 ghost use Rattle.course.specs.Index.{Ready};
 ghost use Rattle.roll.specs.Roll.{stepOn, lastOf, pointDue, heldOf, putDown};
 ghost use Rattle.roll.specs.Contracts.{RollPasses};
-use look::Look;
-use records::Pushed;
 use rolling::Stepped;
 use state::BallState;
 use state::Phase;
 use state::Termination;
 use surface::GroundSample;
 use tally::Conditions;
+use tally::Looked;
+use tally::Push;
 use tally::Tally;
+use tally::Tested;
 use vector::DVec3;
 
 // How a settle that went well ended, and its final state.
@@ -31,15 +32,10 @@ pub struct Roll {
 }
 
 // A pass goes on, ends at rest, or stops by a number, 21 or 22.
-pub enum RollStep {
-    On(Roll),
-    Over(Ending),
-    Ended(u32),
-}
-
-pub struct RollPass {
-    pub step: RollStep,
-    pub tally: Tally,
+pub enum RollPass {
+    On(Roll, Tally),
+    Over(Ending, Tally),
+    Ended(u32, Tally),
 }
 
 // A contact step of at most dt, and not past t_end.
@@ -84,7 +80,7 @@ fn point_due(t: f64, next_sample: f64, last: u8, phase: Phase) -> bool
 
 // Whether the ball stopped in a roll and stays where it is.
 fn held(s: Stepped, under: GroundSample) -> bool
-    ensures { λ r. ⌜ r ≡ heldOf s under ⌝ }
+    ensures { λ r. ⌜ r ≡ heldOf (s .phase) (s .state) under ⌝ }
 {
     let phase = s.phase;
     let state = s.state;
@@ -104,7 +100,7 @@ fn held(s: Stepped, under: GroundSample) -> bool
 
 // The ball after its step, put back onto the ground under it.
 fn put_down(c: Conditions, g: Roll, s: Stepped, under: GroundSample) -> BallState
-    ensures { λ r. ⌜ r ≡ putDown c g s under ⌝ }
+    ensures { λ r. ⌜ r ≡ putDown c g (s .state) (s .rolling) under ⌝ }
 {
     let next = s.state;
     let at = g.at;
@@ -128,60 +124,36 @@ pub fn ground_step(
 {
     let state = g.state;
     let s = step_on(c, g);
-    let next = s.state;
+    let t1 = tally::count_step(t);
     let phase = s.phase;
-    let t1 = tally::stepped(t);
     let due = point_due(state.time, g.next_sample, g.last, phase);
-    let push = tally::push_due(due, points, t1.points, state, phase);
-    let Pushed::Done(n) = push else {
-        return RollPass {
-            step: RollStep::Ended(21),
-            tally: t1,
-        };
+    let Push::Made(t2) = tally::push_due(due, points, t1, state, phase) else {
+        return RollPass::Ended(21, t1);
     };
-    let t2 = tally::counted(t1, n);
+    let next = s.state;
     let pos = next.pos;
-    let seen = course::look_at(sheet, index, t2.rect, pos.x, pos.z);
-    let q = seen.rect;
-    let what = seen.what;
-    let t3 = tally::looked(t2, q);
-    let Look::Saw(under) = what else {
-        return RollPass {
-            step: RollStep::Ended(22),
-            tally: t3,
-        };
+    let Looked::Saw(under, t3) = tally::look(sheet, index, t2, pos.x, pos.z) else {
+        return RollPass::Ended(22, t2);
     };
     let b = put_down(c, g, s, under);
-    if !state::state_ok(b) {
-        return RollPass {
-            step: RollStep::Ended(22),
-            tally: t3,
-        };
-    }
-    let t4 = tally::tested(t3, b);
+    let Tested::Good(t4) = tally::test(t3, b) else {
+        return RollPass::Ended(22, t3);
+    };
     if held(s, under) {
-        let rest = tally::push_point(points, t4.points, b, Phase::Roll);
-        let Pushed::Done(m) = rest else {
-            return RollPass {
-                step: RollStep::Ended(21),
-                tally: t4,
-            };
+        let Push::Made(t5) = tally::push_point(points, t4, b, Phase::Roll) else {
+            return RollPass::Ended(21, t4);
         };
-        return RollPass {
-            step: RollStep::Over(Ending {
-                how: Termination::Rest,
-                state: b,
-            }),
-            tally: tally::counted(t4, m),
-        };
-    }
-    RollPass {
-        step: RollStep::On(Roll {
+        let end = Ending {
+            how: Termination::Rest,
             state: b,
-            at: under,
-            next_sample: tally::next_after(due, g.next_sample, state.time),
-            last: last_of(phase),
-        }),
-        tally: t4,
+        };
+        return RollPass::Over(end, t5);
     }
+    let on = Roll {
+        state: b,
+        at: under,
+        next_sample: tally::next_after(due, g.next_sample, state.time),
+        last: last_of(phase),
+    };
+    RollPass::On(on, t4)
 }

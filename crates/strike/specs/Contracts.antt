@@ -1,12 +1,11 @@
--- What the answers of a strike, a rebound and a drop stand for, and the contracts.
-use Prim.Native.Nat.{ℕ}
+-- Contracts of inner functions: what the answers of a strike, a rebound and a drop stand for, and the contracts.
 use mathlib.Core.Bool.{Bool}
 use mathlib.Core.List.{List}
 use lib.Ieee.{Float}
 use Rattle.state.specs.declared.BallState.{BallState}
 use Rattle.look.specs.Tree.{Oracle}
 use Rattle.tally.specs.Language.{Outcome, goes, stops}
-use Rattle.tally.specs.Contracts.{Runs, RunsBoth}
+use Rattle.tally.specs.Contracts.{place, Runs, RunsOn}
 use Rattle.tally.specs.declared.Tally.{Tally}
 use Rattle.tally.specs.declared.Conditions.{Conditions}
 use Rattle.strike.specs.Strike.{strike, fly, drop}
@@ -34,12 +33,12 @@ abbrev pub droppedBy : DropEnd → Outcome BallState
 droppedBy (Left s) = goes s
 droppedBy (DropEnded n) = stops n
 
--- no list is touched
 abbrev pub Strikes : Oracle → Conditions → BallState → Tally → StrikeOut → Type 0
-Strikes o c state t r = (l : List Float) → Runs o (strike c state) t l (struckBy (r .end)) (r .tally) l
+Strikes o c state t r = (lc lp : List Float) → Runs o (strike c state) 0 (place t lc lp) (struckBy (r .end)) (place (r .tally) lc lp)
 
 abbrev pub Flies : Oracle → Conditions → Bool → BallState → Struck → Tally → List Float → FlyOut → List Float → Type 0
-Flies o c hops state hit t l r m = Runs o (fly c hops state hit) t l (flownBy (r .how)) (r .tally) m
+Flies o c hops state hit t l r m = (lc : List Float) → RunsOn o (fly c hops state hit) (place t lc l) (flownBy (r .how)) (place (r .tally) lc m)
 
-abbrev pub Drops : Conditions → ℕ → BallState → Struck → Tally → List Float → DropOut → List Float → Type 0
-Drops c n state hit t lc r mc = (o : Oracle) (lp : List Float) → RunsBoth o (drop c state hit) n t lc lp (droppedBy (r .end)) (r .contacts) (r .tally) mc lp
+-- on every course, since no look is made
+abbrev pub Drops : Conditions → BallState → Struck → Tally → List Float → DropOut → List Float → Type 0
+Drops c state hit t l r m = (o : Oracle) (lp : List Float) → Runs o (drop c state hit) 0 (place t l lp) (droppedBy (r .end)) (place (r .tally) m lp)

@@ -5,15 +5,16 @@ ghost use Rattle.course.specs.Index.{Ready};
 ghost use Rattle.strike.specs.Strike.{rebounds as reboundsOf, diesOut, dropped};
 ghost use Rattle.strike.specs.Contracts.{Strikes, Flies, Drops};
 use aero::G;
-use hop::HopEnd;
+use hop::HopOut;
 use hop::Way;
-use look::Look;
-use records::Pushed;
 use state::BallState;
 use state::Phase;
 use surface::GroundSample;
 use tally::Conditions;
+use tally::Looked;
+use tally::Push;
 use tally::Tally;
+use tally::Tested;
 
 // ---- an impact
 
@@ -40,27 +41,23 @@ pub fn strike(sheet: &[u8], index: &[u64], c: Conditions, state: BallState, t: T
     ensures { λ r. ⌜ Strikes (courseOf (now (sheet .entry))) c state t r ⌝ }
 {
     let pos = state.pos;
-    let seen = course::look_at(sheet, index, t.rect, pos.x, pos.z);
-    let q = seen.rect;
-    let what = seen.what;
-    let t1 = tally::looked(t, q);
-    let Look::Saw(at) = what else {
+    let Looked::Saw(at, t1) = tally::look(sheet, index, t, pos.x, pos.z) else {
+        return StrikeOut {
+            end: StrikeEnd::Off,
+            tally: t,
+        };
+    };
+    let ball = c.ball;
+    let out = impact::impact(state, at, ball);
+    let Tested::Good(t2) = tally::test(t1, out) else {
         return StrikeOut {
             end: StrikeEnd::Off,
             tally: t1,
         };
     };
-    let ball = c.ball;
-    let out = impact::impact(state, at, ball);
-    if !state::state_ok(out) {
-        return StrikeOut {
-            end: StrikeEnd::Off,
-            tally: t1,
-        };
-    }
     StrikeOut {
         end: StrikeEnd::Hit(Struck { at, out }),
-        tally: tally::tested(t1, out),
+        tally: t2,
     }
 }
 
@@ -139,22 +136,23 @@ pub fn fly(
     }
     let mark = t.points;
     let out = hit.out;
-    let push = tally::push_point(points, mark, out, Phase::Hop);
-    let Pushed::Done(n) = push else {
+    let Push::Made(t1) = tally::push_point(points, t, out, Phase::Hop) else {
         return FlyOut {
             how: FlyEnd::Ended(21),
             tally: t,
         };
     };
-    let flight = hop::hop(sheet, index, points, c, out, tally::counted(t, n));
-    let after = flight.tally;
-    let end = flight.end;
-    match end {
-        HopEnd::Ended(a) => FlyOut {
+    let flight = hop::hop(sheet, index, points, c, hop::flight_of(out), t1);
+    match flight {
+        HopOut::Ended(a, after) => FlyOut {
             how: FlyEnd::Ended(a),
             tally: after,
         },
-        HopEnd::Flew(way) => match way {
+        HopOut::Due(_, after) => FlyOut {
+            how: FlyEnd::Ended(23),
+            tally: after,
+        },
+        HopOut::Flew(way, after) => match way {
             Way::Late(_) => FlyOut {
                 how: FlyEnd::Went(Flown::Hop(way)),
                 tally: after,
@@ -166,10 +164,9 @@ pub fn fly(
                         tally: after,
                     }
                 } else {
-                    records::zero_from(points, mark * 11);
                     FlyOut {
                         how: FlyEnd::Went(Flown::Ground),
-                        tally: tally::counted(after, mark),
+                        tally: tally::truncate(points, after, mark),
                     }
                 }
             }
@@ -187,7 +184,6 @@ pub enum DropEnd {
 
 pub struct DropOut {
     pub end: DropEnd,
-    pub contacts: usize,
     pub tally: Tally,
 }
 
@@ -228,34 +224,28 @@ fn leave_of(c: Conditions, hit: Struck) -> BallState
 pub fn drop_to_ground(
     contacts: &mut [f64],
     c: Conditions,
-    n: usize,
     state: BallState,
     hit: Struck,
     t: Tally,
 ) -> DropOut
-    ensures { λ r. ⌜ Drops c n state hit t (now (contacts .entry)) r (now (contacts .exit)) ⌝ }
+    ensures { λ r. ⌜ Drops c state hit t (now (contacts .entry)) r (now (contacts .exit)) ⌝ }
 {
     let at = hit.at;
     let leave = leave_of(c, hit);
-    if !state::state_ok(leave) {
+    let Tested::Good(t1) = tally::test(t, leave) else {
         return DropOut {
             end: DropEnd::Ended(22),
-            contacts: n,
             tally: t,
         };
-    }
-    let t1 = tally::tested(t, leave);
-    let push = tally::push_contact(contacts, n, state, at, leave);
-    let Pushed::Done(m) = push else {
+    };
+    let Push::Made(t2) = tally::push_contact(contacts, t1, state, at, leave) else {
         return DropOut {
             end: DropEnd::Ended(20),
-            contacts: n,
             tally: t1,
         };
     };
     DropOut {
         end: DropEnd::Left(leave),
-        contacts: m,
-        tally: t1,
+        tally: t2,
     }
 }

@@ -1,1 +1,3 @@
+pub mod Word
 pub mod Loop
+pub mod Reached

@@ -1,78 +1,157 @@
--- What the code's values stand for in the language, and the contracts over them.
-use Prim.Native.Nat.{ℕ, _+_, _/_, _≤_}
+-- Contracts of inner functions: where a run of the code stands, and that its calls do what a part of the definition does.
+use Prim.Native.Nat.{ℕ, _+_, _-_, _*_, _/_, _≤_}
 use mathlib.Core.Path.{_≡_}
-use mathlib.Core.Bool.{Bool}
+use mathlib.Core.Bool.{Bool, false}
 use mathlib.Core.List.{List}
 use lib.ListN.{length}
 use lib.Ieee.{Float}
 use Rattle.state.specs.declared.BallState.{BallState}
-use Rattle.look.specs.Tree.{Oracle, exec, did}
+use Rattle.state.specs.declared.Phase.{Phase}
+use Rattle.surface.specs.declared.GroundSample.{GroundSample}
+use Rattle.look.specs.Rect.{noRect}
+use Rattle.look.specs.Tree.{Made, Oracle, exec, did}
 use Rattle.look.specs.declared.Rect.{Rect}
-use Rattle.records.specs.Records.{Records, Put, put, pushed, recs, asPut, Clean}
-use Rattle.records.specs.declared.Pushed.{Pushed}
-use Rattle.records.specs.declared.Pushed.the-variants.{Full, Done}
-use Rattle.tally.specs.Language.{M, Lent, Log, Outcome, goes, stops, ran, Pass, over, if_then_else_}
+use Rattle.records.specs.Records.{recs, zeroed, Clean}
+use Rattle.tally.specs.Language.{M, Lent, Log, Outcome, goes, stops, ran, Pass, over, when, makeStep, look, test, pushPoint, pushContact}
 use Rattle.tally.specs.declared.Tally.{Tally}
+use Rattle.tally.specs.declared.Looked.{Looked}
+use Rattle.tally.specs.declared.Looked.the-variants.{Off, Saw}
+use Rattle.tally.specs.declared.Tested.{Tested}
+use Rattle.tally.specs.declared.Tested.the-variants.{Bad, Good}
+use Rattle.tally.specs.declared.Push.{Push}
+use Rattle.tally.specs.declared.Push.the-variants.{Full, Made as Pushed}
 
-abbrev pub steppedT : Tally → Tally
-steppedT t = record { steps = t .steps + 1; points = t .points; good = t .good; rect = t .rect }
+-- ---- tallies
 
-abbrev pub testedT : Tally → BallState → Tally
-testedT t s = record { steps = t .steps; points = t .points; good = s; rect = t .rect }
+-- before the first look
+abbrev pub firstTally : BallState → Tally
+firstTally b = record { steps = 0; contacts = 0; points = 0; good = b; rect = noRect }
 
-abbrev pub lookedT : Tally → Rect → Tally
-lookedT t q = record { steps = t .steps; points = t .points; good = t .good; rect = q }
+abbrev pub withRect : Tally → Rect → Tally
+withRect t q = record { steps = t .steps; contacts = t .contacts; points = t .points; good = t .good; rect = q }
 
-abbrev pub countedT : Tally → ℕ → Tally
-countedT t n = record { steps = t .steps; points = n; good = t .good; rect = t .rect }
+abbrev pub withContacts : Tally → ℕ → Tally
+withContacts t n = record { steps = t .steps; contacts = n; points = t .points; good = t .good; rect = t .rect }
 
--- the log that a tally and a list of points stand for, with contacts k; `room` is the number of points that the list has room for
-abbrev pub logOf : Lent → ℕ → Tally → List Float → Log
-logOf k room t l = record { steps = t .steps; contacts = k; points = record { room = room; records = recs 11 (t .points) l }; good = t .good }
+abbrev pub withPoints : Tally → ℕ → Tally
+withPoints t n = record { steps = t .steps; contacts = t .contacts; points = n; good = t .good; rect = t .rect }
 
--- a list of records w wide that held n of them, and +0 after them, holds k of them, no fewer, and +0 after them
+-- ---- where a run stands
+
+-- its tally, and both lists
+pub record Place : Type 0 where
+  pub tally : Tally
+  pub contacts : List Float
+  pub points : List Float
+
+abbrev pub place : Tally → List Float → List Float → Place
+place t lc lp = record { tally = t; contacts = lc; points = lp }
+
+-- n records, w wide, in a list that was lent
+abbrev pub lent : ℕ → ℕ → List Float → Lent
+lent w n l = record { room = length l / w; records = recs w n l }
+
+-- the log that a place stands for
+abbrev pub logAt : Place → Log
+logAt p = record {
+  steps = p .tally .steps;
+  contacts = lent 20 (p .tally .contacts) (p .contacts);
+  points = lent 11 (p .tally .points) (p .points);
+  good = p .tally .good;
+}
+
+-- ---- a call
+
+-- a list of records w wide that held n of them, and +0 after them, holds k of them, no fewer, and +0 after them; it is as long as it was
 pub record Grown (w n : ℕ) (l : List Float) (k : ℕ) (m : List Float) : Type 0 where
   pub more : n ≤ k
+  pub long : length m ≡ length l
   pub clean : Clean w n l → Clean w k m
 
-abbrev pub GrownIf : ℕ → List Float → Pushed → List Float → Type 0
-GrownIf n l Full m = m ≡ l
-GrownIf n l (Done k) m = Grown 11 n l k m
+-- a call that the definition's part m is of: from place a it comes to place b by n steps, with outcome x
+pub record Runs {A : Type 0} (o : Oracle) (m : M A) (n : ℕ) (a : Place) (x : Outcome A) (b : Place) : Type 0 where
+  pub same : did (ran x (logAt b)) (b .tally .rect) ≡ exec o (a .tally .rect) (m (logAt a))
+  pub count : b .tally .steps ≡ a .tally .steps + n
+  pub contacts : Grown 20 (a .tally .contacts) (a .contacts) (b .tally .contacts) (b .contacts)
+  pub points : Grown 11 (a .tally .points) (a .points) (b .tally .points) (b .points)
 
-abbrev pub pushedIf : Bool → ℕ → Records → List Float → Put
-pushedIf due room rs r = if due then pushed room rs r else put rs
+-- the same, of a call that makes as many steps as it counts
+abbrev pub RunsOn : {A : Type 0} → Oracle → M A → Place → Outcome A → Place → Type 0
+RunsOn o m a x b = Runs o m (b .tally .steps - a .tally .steps) a x b
 
--- a push of a point if it is due
-pub record PushesIf (due : Bool) (n : ℕ) (l r : List Float) (p : Pushed) (m : List Float) : Type 0 where
-  pub same : asPut 11 p m ≡ pushedIf due (length l / 11) (recs 11 n l) r
-  pub kept : GrownIf n l p m
+-- the run of m from a has made n steps, is at b, and m' is left of it
+pub record Reached {A : Type 0} (o : Oracle) (m : M A) (a : Place) (n : ℕ) (m' : M A) (b : Place) : Type 0 where
+  pub same : exec o (b .tally .rect) (m' (logAt b)) ≡ exec o (a .tally .rect) (m (logAt a))
+  pub count : b .tally .steps ≡ a .tally .steps + n
+  pub contacts : Grown 20 (a .tally .contacts) (a .contacts) (b .tally .contacts) (b .contacts)
+  pub points : Grown 11 (a .tally .points) (a .points) (b .tally .points) (b .points)
+
+-- a call that only looks: from rectangle q to q', its outcome is the definition's and the log stays as it is
+abbrev pub Looks : {A : Type 0} → Oracle → Rect → M A → Outcome A → Rect → Type 0
+Looks o q m x q' = (l : Log) → did (ran x l) q' ≡ exec o q (m l)
 
 -- a pass that ends its loop, or a stop
 abbrev pub overBy : {A B : Type 0} → Outcome B → Outcome (Pass A B)
 overBy (goes b) = goes (over b)
 overBy (stops n) = stops n
 
--- a call that only looks: from rectangle q to q', its outcome is the definition's and the log stays as it is
-abbrev pub Looks : {A : Type 0} → Oracle → Rect → M A → Outcome A → Rect → Type 0
-Looks o q m x q' = (l : Log) → did (ran x l) q' ≡ exec o q (m l)
+-- how a loop of passes comes back: with an outcome, or with what it carries, when a step is due that it may not make
+pub data Back (A B : Type 0) : Type 0 where
+  came : Outcome B → Back A B
+  dueWith : A → Back A B
 
--- a call that looks, tests, counts steps and pushes points: from a tally t and points l to t' and l', as the definition's part m does
-pub record Runs {A : Type 0} (o : Oracle) (m : M A) (t : Tally) (l : List Float) (x : Outcome A) (t' : Tally) (l' : List Float) : Type 0 where
-  pub same : (k : Lent) → did (ran x (logOf k (length l / 11) t' l')) (t' .rect) ≡ exec o (t .rect) (m (logOf k (length l / 11) t l))
-  pub grown : Grown 11 (t .points) l (t' .points) l'
+-- a loop that the definition's part m is of; where a step is due, before t_end, `left` is what is left of m
+abbrev pub Loops : {A B : Type 0} → Oracle → M B → (A → Bool) → (A → M B) → Place → Back A B → Place → Type 0
+Loops o m late left a (came x) b = RunsOn o m a x b
+Loops o m late left a (dueWith g) b = (late g ≡ false) × Reached o m a (b .tally .steps - a .tally .steps) (left g) b
 
--- the same of a pass, which makes one step
-pub record Passes {A : Type 0} (o : Oracle) (m : M A) (t : Tally) (l : List Float) (x : Outcome A) (t' : Tally) (l' : List Float) : Type 0 where
-  pub same : (k : Lent) → did (ran x (logOf k (length l / 11) t' l')) (t' .rect) ≡ exec o (t .rect) (m (logOf k (length l / 11) t l))
-  pub count : t' .steps ≡ t .steps + 1
-  pub grown : Grown 11 (t .points) l (t' .points) l'
+-- ---- the words; a list that a word does not touch may be any
 
--- the contacts that a list stands for, with n of them pushed
-abbrev pub lent : ℕ → ℕ → List Float → Lent
-lent room n l = record { room = room; records = recs 20 n l }
+abbrev pub MakesStep : Tally → Tally → Type 0
+MakesStep t t' = (o : Oracle) (s : Made) (lc lp : List Float) → Runs o (makeStep s) 1 (place t lc lp) (goes s) (place t' lc lp)
 
--- a call that also pushes contacts: from n contacts in lc to n' in mc
-pub record RunsBoth {A : Type 0} (o : Oracle) (m : M A) (n : ℕ) (t : Tally) (lc lp : List Float) (x : Outcome A) (n' : ℕ) (t' : Tally) (mc mp : List Float) : Type 0 where
-  pub same : did (ran x (logOf (lent (length lc / 20) n' mc) (length lp / 11) t' mp)) (t' .rect) ≡ exec o (t .rect) (m (logOf (lent (length lc / 20) n lc) (length lp / 11) t lp))
-  pub contacts : Grown 20 n lc n' mc
-  pub points : Grown 11 (t .points) lp (t' .points) mp
+-- what each answers, and the tally it leaves; where a word stops the tally stays as it is
+abbrev pub sawBy : Looked → Outcome GroundSample
+sawBy Off = stops 22
+sawBy (Saw s t') = goes s
+
+abbrev pub afterLook : Tally → Looked → Tally
+afterLook t Off = t
+afterLook t (Saw s t') = t'
+
+abbrev pub passedBy : BallState → Tested → Outcome BallState
+passedBy s Bad = stops 22
+passedBy s (Good t') = goes s
+
+abbrev pub afterTest : Tally → Tested → Tally
+afterTest t Bad = t
+afterTest t (Good t') = t'
+
+-- 20 or 21 where the list is full
+abbrev pub pushedBy : ℕ → Push → Outcome Unit
+pushedBy n Full = stops n
+pushedBy n (Pushed t') = goes tt
+
+abbrev pub afterPush : Tally → Push → Tally
+afterPush t Full = t
+afterPush t (Pushed t') = t'
+
+abbrev pub LooksAt : Oracle → Tally → Float → Float → Looked → Type 0
+LooksAt o t x z r = (lc lp : List Float) → Runs o (look x z) 0 (place t lc lp) (sawBy r) (place (afterLook t r) lc lp)
+
+abbrev pub Tests : Tally → BallState → Tested → Type 0
+Tests t s r = (o : Oracle) (lc lp : List Float) → Runs o (test s) 0 (place t lc lp) (passedBy s r) (place (afterTest t r) lc lp)
+
+abbrev pub PushesPoint : Tally → List Float → BallState → Phase → Push → List Float → Type 0
+PushesPoint t l s f r m = (o : Oracle) (lc : List Float) → Runs o (pushPoint s f) 0 (place t lc l) (pushedBy 21 r) (place (afterPush t r) lc m)
+
+abbrev pub PushesIf : Bool → Tally → List Float → BallState → Phase → Push → List Float → Type 0
+PushesIf due t l s f r m = (o : Oracle) (lc : List Float) → Runs o (when due (pushPoint s f)) 0 (place t lc l) (pushedBy 21 r) (place (afterPush t r) lc m)
+
+abbrev pub PushesContact : Tally → List Float → BallState → GroundSample → BallState → Push → List Float → Type 0
+PushesContact t l a s b r m = (o : Oracle) (lp : List Float) → Runs o (pushContact a s b) 0 (place t l lp) (pushedBy 20 r) (place (afterPush t r) m lp)
+
+-- `truncate`, by the list: +0 from record n on, and n is counted
+pub record Truncates (t : Tally) (l : List Float) (n : ℕ) (t' : Tally) (m : List Float) : Type 0 where
+  pub tally : t' ≡ withPoints t n
+  pub list : m ≡ zeroed l (n * 11)

@@ -12,7 +12,7 @@ use Rattle.state.specs.declared.Phase.{Phase}
 use Rattle.state.specs.declared.Phase.the-variants.{Hop, Slide, Roll}
 use Rattle.search.specs.Search.{Does}
 use Rattle.state.specs.State.{stateOk}
-use Rattle.look.specs.Tree.{Tree, done, step, bind, lookTree}
+use Rattle.look.specs.Tree.{Made, Tree, done, step, bind, lookTree}
 use Rattle.look.specs.declared.Look.{Look}
 use Rattle.look.specs.declared.Look.the-variants.{Off, Saw}
 use Rattle.records.specs.Records.{Records, Put, full, put, pushed}
@@ -127,9 +127,10 @@ contact (put rs) l = pure tt (withContacts rs l)
 
 -- ---- the terms of 01
 
--- step. 01: "one step is one pass that makes a hop step or a contact step, counted once that is made"
-unfoldable pub countStep : M Unit
-countStep l = step (pure tt (stepped l))
+-- step. 01: "one step is one pass that makes a hop step or a contact step, counted once that is made".
+-- What a step made is had of this word, which counts it: no step goes uncounted, and no count is without its step.
+unfoldable pub makeStep : Made → M Made
+makeStep s l = step s (pure s (stepped l))
 
 -- look, at the spot (x, z). 01: "Before each look x and z get the same test"; a look whose spot fails it is not made
 unfoldable pub look : Float → Float → M GroundSample

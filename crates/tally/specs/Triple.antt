@@ -13,13 +13,13 @@ use Rattle.state.specs.declared.BallState.{BallState}
 use Rattle.surface.specs.declared.GroundSample.{GroundSample}
 use Rattle.state.specs.declared.Phase.{Phase}
 use Rattle.look.specs.Rect.{spotOk}
-use Rattle.look.specs.Tree.{Tree, done, look as lookNode, step, Oracle, Spot, run, looks, seen, answer, note, bind}
+use Rattle.look.specs.Tree.{Made, Tree, done, look as lookNode, step, Oracle, Spot, run, looks, seen, answer, note, bind}
 use Rattle.look.specs.Resume.{steps as stepsOf}
 use Rattle.records.specs.Records.{Records, pushed}
 use Rattle.state.specs.State.{stateOk}
 use Rattle.tally.specs.Language.{M, Lent, Log, Outcome, goes, stops, Ran, onward, _>>=_, if_then_else_, pointOf, contactOf}
 use Rattle.tally.specs.Language.{stepped, tested, withPoints, withContacts, seenAt, point, contact, Pass, again, over}
-use Rattle.tally.specs.Language.{pure, stopWith, when, look, test, pushPoint, pushContact, mark, truncate, countStep, stepsLeft, loop}
+use Rattle.tally.specs.Language.{pure, stopWith, when, look, test, pushPoint, pushContact, mark, truncate, makeStep, stepsLeft, loop}
 use Rattle.tally.specs.declared.Conditions.{Conditions}
 
 -- ---- what a run has behind it
@@ -90,7 +90,7 @@ noted false p l = l
 unfoldable pub misses : {A : Type 0} → Oracle → Tree A → List Spot
 misses o (done a) = []
 misses o (lookNode x z c) = note (not (spotOk x z)) (spot x z) (misses o (c (seen o x z)))
-misses o (step t) = misses o t
+misses o (step m t) = misses o t
 
 -- Q of value and past where it goes on, R of number and past where it stops
 abbrev pub After : {A : Type 0} → (A → Past → Type 0) → (ℕ → Past → Type 0) → Outcome A → Past → Type 0
@@ -110,7 +110,7 @@ module _ (o : Oracle) where
   unfoldable pub reach : {A : Type 0} → Tree (Ran A) → ℕ → List Spot → List Spot → Reached A
   reach (done r) n s f = reached (r .outcome) (past (r .log) n s f)
   reach (lookNode x z c) n s f = reach (c (seen o x z)) n (noted (spotOk x z) (spot x z) s) (noted (not (spotOk x z)) (spot x z) f)
-  reach (step t) n s f = reach t (suc n) s f
+  reach (step m t) n s f = reach t (suc n) s f
 
   -- a part of a run with w behind it
   abbrev pub reaches : {A : Type 0} → M A → Past → Reached A
@@ -131,7 +131,7 @@ module _ (o : Oracle) where
   reach-is (done r) n s f = rw (add-zero, append-nil s, append-nil f)
   reach-is (lookNode x z c) n s f =
       reach-is (c (seen o x z)) n _ _ ∙ rw (noted-is (spotOk x z) (spot x z) s _, noted-is (not (spotOk x z)) (spot x z) f _)
-  reach-is (step t) n s f = reach-is t (suc n) s f ∙ rw (suc-add, add-suc)
+  reach-is (step m t) n s f = reach-is t (suc n) s f ∙ rw (suc-add, add-suc)
 
   -- what a part of its own leaves, from a log l
   abbrev pub ended : {A : Type 0} → M A → Log → Past
@@ -176,7 +176,7 @@ module _ {o : Oracle} where
             → Left Q R (reach o t n s f) → Left S R (reach o (bind t (λ r. onward k (r .outcome) (r .log))) n s f)
         through (done r) n s f q = on (r .outcome) (past (r .log) n s f) q
         through (lookNode x z c) n s f q = through (c (seen o x z)) n _ _ q
-        through (step t) n s f q = through t (suc n) s f q
+        through (step m t) n s f q = through t (suc n) s f q
 
   module _ {A : Type 0} {P : Past → Type 0} {Q : A → Past → Type 0} {R : ℕ → Past → Type 0} where
     -- with a fact of the value that says nothing of the past
@@ -257,9 +257,15 @@ module _ {o : Oracle} where
     t-truncate n f = record { all = f }
 
     -- a step is made, and counted
-    pub t-step : {Q : Unit → Past → Type 0} → ((w : Past) → P w → Q tt (stepMade w)) → Triple o P countStep Q R
-    unfolding countStep reach
-    t-step f = record { all = f }
+    pub t-step : {Q : Made → Past → Type 0} (s : Made) → ((w : Past) → P w → Q s (stepMade w)) → Triple o P (makeStep s) Q R
+    unfolding makeStep reach
+    t-step s f = record { all = f }
+
+    -- and what follows goes on with what it made
+    pub t-made : {Q : Past → Type 0} {B : Type 0} {S : B → Past → Type 0} {s : Made} {k : Made → M B}
+        → Triple o P (makeStep s) (λ _. Q) R → Triple o Q (k s) S R → Triple o P (makeStep s >>= k) S R
+    unfolding makeStep _>>=_ bind reach
+    t-made t g = record { all = λ w p. g .all (stepMade w) (t .all w p) }
 
     pub t-left : {Q : ℕ → Past → Type 0} (c : Conditions) → ((w : Past) → P w → Q (c .«step_limit» - w .log .steps) w) → Triple o P (stepsLeft c) Q R
     unfolding stepsLeft reach

@@ -17,9 +17,9 @@ use Rattle.records.specs.Records.{Put, full, put, pushed, asPut, recs}
 use Rattle.records.specs.declared.Pushed.{Pushed}
 use Rattle.records.specs.declared.Pushed.the-variants.{Full, Done}
 use Rattle.tally.specs.declared.Conditions.{Conditions}
-use Rattle.tally.specs.Contracts.{pushedIf, overBy}
+use Rattle.tally.specs.Contracts.{overBy}
 use Rattle.state.specs.State.{stateOk}
-use Rattle.tally.specs.Language.{M, Ran, ran, Log, Outcome, goes, stops, onward, _>>=_, when, pointOf, contactOf, seenAt, stepped, tested, withPoints, withContacts, pushContact, countStep, look, test, pushPoint, mark, truncate, stepsLeft, Pass, again, loop}
+use Rattle.tally.specs.Language.{M, Ran, ran, Log, Outcome, goes, stops, onward, _>>=_, when, pointOf, contactOf, seenAt, stepped, tested, withPoints, withContacts, pushContact, makeStep, look, test, pushPoint, mark, truncate, stepsLeft, Pass, again, loop}
 
 module _ {A B : Type 0} (o : Oracle) (q : Rect) (m : M A) (k : A → M B) (l : Log) {x : Outcome A} {l' : Log} {q' : Rect} where
   -- the callee went on
@@ -32,20 +32,8 @@ module _ {A B : Type 0} (o : Oracle) (q : Rect) (m : M A) (k : A → M B) (l : L
   unfolding _>>=_ exec
   halted e h = ends o q (m l) (λ (r : Ran A). onward k (r .outcome) (r .log)) e (ap (λ (y : Outcome A). ran y l') h) refl
 
-abbrev putOf : Put → Log → Log
-putOf full l = l
-putOf (put rs) l = withPoints rs l
-
-abbrev isPut : Put → ℕ
-isPut full = 0
-isPut (put rs) = 1
-
 -- the words, each with what may follow it
 module _ {B : Type 0} (o : Oracle) (q : Rect) (l : Log) where
-  pub step-counted : (k : Unit → M B) {d : Did (Ran B)} → d ≡ exec o q (k tt (stepped l)) → d ≡ exec o q ((countStep >>= k) l)
-  unfolding _>>=_ exec bind countStep
-  step-counted k p = p
-
   pub test-ok : (k : BallState → M B) {b b' : BallState} {d : Did (Ran B)} → b ≡ b' → stateOk b ≡ true → d ≡ exec o q (k b (tested b l)) → d ≡ exec o q ((test b' >>= k) l)
   unfolding _>>=_ exec bind test
   test-ok k e h p = rw (← e, h) p
@@ -63,38 +51,6 @@ module _ {B : Type 0} (o : Oracle) (q : Rect) (l : Log) where
       → did w q' ≡ exec o q (lookTree x z) → w ≡ Off → did (ran (stops 22) l) q' ≡ exec o q ((look x z >>= k) l)
   unfolding _>>=_ look bind exec
   look-off k x z e h = ends o q (lookTree x z) (λ (w : Look). (seenAt w >>= k) l) e h refl
-
-  pub point-put : (k : Unit → M B) (b : BallState) (f : Phase) (m : List Float) {p : Pushed} {n : ℕ} {d : Did (Ran B)}
-      → asPut 11 p m ≡ pushed (l .points .room) (l .points .records) (pointOf b f) → p ≡ Done n → d ≡ exec o q (k tt (withPoints (recs 11 n m) l)) → d ≡ exec o q ((pushPoint b f >>= k) l)
-  unfolding _>>=_ bind pushPoint
-  point-put k b f m e h p = rw (← e, h) p
-
-  pub point-full : (k : Unit → M B) (b : BallState) (f : Phase) (m : List Float) {p : Pushed}
-      → asPut 11 p m ≡ pushed (l .points .room) (l .points .records) (pointOf b f) → p ≡ Full → did (ran (stops 21) l) q ≡ exec o q ((pushPoint b f >>= k) l)
-  unfolding _>>=_ bind pushPoint exec
-  point-full k b f m e h = rw (← e, h)
-
-  pub contact-put : (k : Unit → M B) (a : BallState) (s : GroundSample) (b : BallState) (m : List Float) {p : Pushed} {n : ℕ} {d : Did (Ran B)}
-      → asPut 20 p m ≡ pushed (l .contacts .room) (l .contacts .records) (contactOf a s b) → p ≡ Done n → d ≡ exec o q (k tt (withContacts (recs 20 n m) l)) → d ≡ exec o q ((pushContact a s b >>= k) l)
-  unfolding _>>=_ bind pushContact
-  contact-put k a s b m e h p = rw (← e, h) p
-
-  pub contact-full : (k : Unit → M B) (a : BallState) (s : GroundSample) (b : BallState) (m : List Float) {p : Pushed}
-      → asPut 20 p m ≡ pushed (l .contacts .room) (l .contacts .records) (contactOf a s b) → p ≡ Full → did (ran (stops 20) l) q ≡ exec o q ((pushContact a s b >>= k) l)
-  unfolding _>>=_ bind pushContact exec
-  contact-full k a s b m e h = rw (← e, h)
-
-  pub due-put : (k : Unit → M B) (due : Bool) (b : BallState) (f : Phase) (m : List Float) {p : Pushed} {n : ℕ} {d : Did (Ran B)}
-      → asPut 11 p m ≡ pushedIf due (l .points .room) (l .points .records) (pointOf b f) → p ≡ Done n → d ≡ exec o q (k tt (withPoints (recs 11 n m) l)) → d ≡ exec o q ((when due (pushPoint b f) >>= k) l)
-  unfolding _>>=_ bind pushPoint when
-  due-put k true b f m e h p = rw (← e, h) p
-  due-put k false b f m {n = n} e h p = rw (← ap (λ (x : Put). putOf x l) (sym (ap (λ (x : Pushed). asPut 11 x m) h) ∙ e)) p
-
-  pub due-full : (k : Unit → M B) (due : Bool) (b : BallState) (f : Phase) (m : List Float) {p : Pushed}
-      → asPut 11 p m ≡ pushedIf due (l .points .room) (l .points .records) (pointOf b f) → p ≡ Full → did (ran (stops 21) l) q ≡ exec o q ((when due (pushPoint b f) >>= k) l)
-  unfolding _>>=_ bind pushPoint exec when
-  due-full k true b f m e h = rw (← e, h)
-  due-full k false b f m e h = absurd (let z : _≡_ {A = ℕ} 0 1 = ap isPut (sym (ap (λ (x : Pushed). asPut 11 x m) h) ∙ e) in omega arith)
 
   pub marked : (k : ℕ → M B) {n : ℕ} {d : Did (Ran B)} → n ≡ length (l .points .records) → d ≡ exec o q (k n l) → d ≡ exec o q ((mark >>= k) l)
   unfolding _>>=_ bind mark

@@ -1,11 +1,15 @@
-// What a settle carries along: the steps made, the points pushed, the last state that passed its test, the rectangle.
+// What a settle carries along, and the words in which it runs: a step, a look, a test, a push (01's terms), each from a tally to the next.
 ghost use mathlib.Core.Path.{_≡_};
-ghost use Prim.Native.Nat.{_<_};
+ghost use Prim.Native.Nat.{_<_, _≤_, _*_};
+ghost use lib.ListN.{length};
+ghost use Rattle.course.specs.Sheet.{courseOf};
+ghost use Rattle.course.specs.Index.{Ready};
 ghost use Rattle.records.specs.Records.{Pushes};
 ghost use Rattle.tally.specs.Times.{isLate, isDue, nextAfter};
 ghost use Rattle.tally.specs.Language.{phaseNumber, pointOf, contactOf};
-ghost use Rattle.tally.specs.Contracts.{steppedT, testedT, lookedT, countedT, PushesIf};
+ghost use Rattle.tally.specs.Contracts.{firstTally, MakesStep, LooksAt, Tests, PushesPoint, PushesIf, PushesContact, Truncates, withContacts, withPoints, withRect};
 use aero::BallModel;
+use look::Look;
 use look::Rect;
 use records::Pushed;
 use shot::GroundPhysics;
@@ -48,67 +52,144 @@ pub fn next_after(due: bool, next: f64, from: f64) -> f64
     if due { from + SAMPLE_INTERVAL } else { next }
 }
 
-// ---- counts, the last state that passed its test, the rectangle
+// ---- the tally
 
+// The steps made, the contacts and points pushed, the last state that passed its test, the rectangle of the looks.
 pub struct Tally {
     pub steps: u64,
+    pub contacts: usize,
     pub points: usize,
     pub good: BallState,
     pub rect: Rect,
 }
 
-pub fn stepped(t: Tally) -> Tally
+// Before the first look.
+pub fn first_tally(landing: BallState) -> Tally
+    ensures { λ r. ⌜ r ≡ firstTally landing ⌝ }
+{
+    Tally {
+        steps: 0,
+        contacts: 0,
+        points: 0,
+        good: landing,
+        rect: look::no_rect(),
+    }
+}
+
+// ---- a step
+
+// A step was made, and is counted.
+pub fn count_step(t: Tally) -> Tally
     requires { ⌜ t .steps < 18446744073709551615 ⌝ }
-    ensures { λ r. ⌜ r ≡ steppedT t ⌝ }
+    ensures { λ r. ⌜ MakesStep t r ⌝ }
 {
     let good = t.good;
     let rect = t.rect;
     Tally {
         steps: t.steps + 1,
+        contacts: t.contacts,
         points: t.points,
         good,
         rect,
     }
 }
 
-pub fn tested(t: Tally, s: BallState) -> Tally
-    ensures { λ r. ⌜ r ≡ testedT t s ⌝ }
-{
-    let rect = t.rect;
-    Tally {
-        steps: t.steps,
-        points: t.points,
-        good: s,
-        rect,
-    }
+// ---- a look
+
+// The spot failed its test, 22; or the sample there.
+pub enum Looked {
+    Off,
+    Saw(GroundSample, Tally),
 }
 
-pub fn looked(t: Tally, rect: Rect) -> Tally
-    ensures { λ r. ⌜ r ≡ lookedT t rect ⌝ }
+// The tally with another rectangle: what a call that only looks changes.
+pub fn with_rect(t: Tally, rect: Rect) -> Tally
+    ensures { λ r. ⌜ r ≡ withRect t rect ⌝ }
 {
     let good = t.good;
     Tally {
         steps: t.steps,
+        contacts: t.contacts,
         points: t.points,
         good,
         rect,
     }
 }
 
-pub fn counted(t: Tally, points: usize) -> Tally
-    ensures { λ r. ⌜ r ≡ countedT t points ⌝ }
+pub fn look(sheet: &[u8], index: &[u64], t: Tally, x: f64, z: f64) -> Looked
+    requires { ⌜ Ready (now sheet) (now index) ⌝ }
+    ensures { λ r. ⌜ LooksAt (courseOf (now (sheet .entry))) t x z r ⌝ }
 {
-    let good = t.good;
     let rect = t.rect;
-    Tally {
-        steps: t.steps,
-        points,
-        good,
-        rect,
+    let seen = course::look_at(sheet, index, rect, x, z);
+    let wider = seen.rect;
+    let what = seen.what;
+    match what {
+        Look::Off => Looked::Off,
+        Look::Saw(s) => Looked::Saw(s, with_rect(t, wider)),
+    }
+}
+
+// ---- a test
+
+// The state failed test 22, or is the last that passed it.
+pub enum Tested {
+    Bad,
+    Good(Tally),
+}
+
+pub fn test(t: Tally, s: BallState) -> Tested
+    ensures { λ r. ⌜ Tests t s r ⌝ }
+{
+    if state::state_ok(s) {
+        let rect = t.rect;
+        Tested::Good(Tally {
+            steps: t.steps,
+            contacts: t.contacts,
+            points: t.points,
+            good: s,
+            rect,
+        })
+    } else {
+        Tested::Bad
     }
 }
 
 // ---- pushes
+
+// The list was full, 20 or 21; or the record is pushed.
+pub enum Push {
+    Full,
+    Made(Tally),
+}
+
+fn with_contacts(t: Tally, n: usize) -> Tally
+    ensures { λ r. ⌜ r ≡ withContacts t n ⌝ }
+{
+    let good = t.good;
+    let rect = t.rect;
+    Tally {
+        steps: t.steps,
+        contacts: n,
+        points: t.points,
+        good,
+        rect,
+    }
+}
+
+fn with_points(t: Tally, n: usize) -> Tally
+    ensures { λ r. ⌜ r ≡ withPoints t n ⌝ }
+{
+    let good = t.good;
+    let rect = t.rect;
+    Tally {
+        steps: t.steps,
+        contacts: t.contacts,
+        points: n,
+        good,
+        rect,
+    }
+}
 
 fn phase_number(phase: Phase) -> f64
     ensures { λ r. ⌜ r ≡ phaseNumber phase ⌝ }
@@ -120,7 +201,7 @@ fn phase_number(phase: Phase) -> f64
     }
 }
 
-pub fn push_point(points: &mut [f64], n: usize, s: BallState, phase: Phase) -> Pushed
+fn write_point(points: &mut [f64], n: usize, s: BallState, phase: Phase) -> Pushed
     ensures { λ r. ⌜ Pushes 11 n (now (points .entry)) (pointOf s phase) r (now (points .exit)) ⌝ }
 {
     let p = s.pos;
@@ -131,7 +212,28 @@ pub fn push_point(points: &mut [f64], n: usize, s: BallState, phase: Phase) -> P
     records::push(points, n, &rec)
 }
 
-pub fn push_contact(
+pub fn push_point(points: &mut [f64], t: Tally, s: BallState, phase: Phase) -> Push
+    ensures { λ r. ⌜ PushesPoint t (now (points .entry)) s phase r (now (points .exit)) ⌝ }
+{
+    let pushed = write_point(points, t.points, s, phase);
+    match pushed {
+        Pushed::Full => Push::Full,
+        Pushed::Done(n) => Push::Made(with_points(t, n)),
+    }
+}
+
+// A point, if it is due.
+pub fn push_due(due: bool, points: &mut [f64], t: Tally, s: BallState, phase: Phase) -> Push
+    ensures { λ r. ⌜ PushesIf due t (now (points .entry)) s phase r (now (points .exit)) ⌝ }
+{
+    if due {
+        push_point(points, t, s, phase)
+    } else {
+        Push::Made(t)
+    }
+}
+
+fn write_contact(
     contacts: &mut [f64],
     n: usize,
     arrival: BallState,
@@ -172,13 +274,27 @@ pub fn push_contact(
     records::push(contacts, n, &rec)
 }
 
-// A point, if it is due.
-pub fn push_due(due: bool, points: &mut [f64], n: usize, s: BallState, phase: Phase) -> Pushed
-    ensures { λ r. ⌜ PushesIf due n (now (points .entry)) (pointOf s phase) r (now (points .exit)) ⌝ }
+pub fn push_contact(
+    contacts: &mut [f64],
+    t: Tally,
+    arrival: BallState,
+    at: GroundSample,
+    departure: BallState,
+) -> Push
+    ensures { λ r. ⌜ PushesContact t (now (contacts .entry)) arrival at departure r (now (contacts .exit)) ⌝ }
 {
-    if due {
-        push_point(points, n, s, phase)
-    } else {
-        Pushed::Done(n)
+    let pushed = write_contact(contacts, t.contacts, arrival, at, departure);
+    match pushed {
+        Pushed::Full => Push::Full,
+        Pushed::Done(n) => Push::Made(with_contacts(t, n)),
     }
+}
+
+// The points from `mark` on are taken back.
+pub fn truncate(points: &mut [f64], t: Tally, mark: usize) -> Tally
+    requires { ⌜ mark * 11 ≤ length (now points) ⌝ }
+    ensures { λ r. ⌜ Truncates t (now (points .entry)) mark r (now (points .exit)) ⌝ }
+{
+    records::zero_from(points, mark * 11);
+    with_points(t, mark)
 }

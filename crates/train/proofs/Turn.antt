@@ -1,6 +1,6 @@
--- The train of impacts, up to each place where one turn of it may end.
-use Prim.Native.Nat.{ℕ, zero, suc, _+_, _-_, _*_, _/_, _≤_, zero-le}
-use mathlib.Core.Path.{_≡_, refl, ap, _∙_}
+-- Lemmas: the train of impacts, up to each place where one turn of it may end.
+use Prim.Native.Nat.{ℕ, zero, suc, _+_, _-_, _*_, _≤_, zero-le}
+use mathlib.Core.Path.{_≡_, refl}
 use mathlib.Core.Bool.{Bool, true, false, not}
 use mathlib.Core.List.{List}
 use lib.Ieee.{Float}
@@ -9,54 +9,44 @@ use native.Mathlib.Omega.{arith}
 use borrow.Author.Tests.{leb-true, leb-false}
 use Rattle.state.specs.declared.BallState.{BallState}
 use Rattle.state.specs.declared.Phase.the-variants.{Hop as InHop}
-use Rattle.look.specs.Rect.{noRect}
-use Rattle.look.specs.Tree.{bind, Oracle, exec, did, Did, ends}
-use Rattle.look.specs.declared.Rect.{Rect}
-use Rattle.records.specs.Records.{Pushes, Kept}
-use Rattle.records.specs.declared.Pushed.{Pushed}
-use Rattle.records.specs.declared.Pushed.the-variants.{Full, Done}
-use Rattle.tally.specs.Language.{M, Lent, Ran, ran, Log, Outcome, goes, stops, onward, _>>=_, _>>_, if_then_else_, pointOf, contactOf, pushContact}
-use Rattle.tally.specs.Contracts.{countedT, logOf, Grown, Runs, lent, RunsBoth}
-use Rattle.tally.specs.Lists.{stay, grow, pushed-grown}
-use Rattle.tally.specs.Words.{went, halted, contact-put, contact-full, point-put, point-full}
+use Rattle.look.specs.Tree.{bind, Oracle, exec}
+use Rattle.tally.specs.Language.{M, Log, Outcome, goes, stops, stopWith, _>>=_, _>>_, if_then_else_, pushContact}
+use Rattle.tally.specs.Contracts.{Place, place, logAt, firstTally, RunsOn, Reached}
 use Rattle.tally.specs.declared.Conditions.{Conditions}
 use Rattle.tally.specs.declared.Tally.{Tally}
+use Rattle.tally.proofs.Reached.{begun, ended, on, came, said, went, halted, last}
 use Rattle.hop.specs.declared.Way.{Way}
 use Rattle.hop.specs.declared.Way.the-variants.{Arrived, Late}
-use Rattle.roll.specs.Roll.{ending}
 use Rattle.roll.specs.declared.Ending.{Ending}
-use Rattle.state.specs.declared.Termination.the-variants.{MaxImpacts}
 use Rattle.ground_phase.specs.GroundPhase.{timeUp, ground}
-use Rattle.ground_phase.specs.Contracts.{endedBy}
-use Rattle.ground_phase.specs.declared.GroundOut.{GroundOut}
+use Rattle.ground_phase.specs.Contracts.{TimesUp, endedBy, afterRun}
+use Rattle.ground_phase.specs.declared.RunOut.{RunOut}
 use Rattle.strike.specs.Strike.{strike, rebounds, fly, drop}
+use Rattle.strike.specs.Contracts.{Strikes, Flies, Drops}
 use Rattle.strike.specs.declared.Struck.{Struck}
+use Rattle.strike.specs.declared.StrikeOut.{StrikeOut}
+use Rattle.strike.specs.declared.StrikeEnd.the-variants.{Hit, Off}
 use Rattle.strike.specs.declared.Flown.{Flown}
 use Rattle.strike.specs.declared.Flown.the-variants.{Hop, Ground}
+use Rattle.strike.specs.declared.FlyOut.{FlyOut}
+use Rattle.strike.specs.declared.FlyEnd.the-variants.{Went, Ended as FlyEnded}
+use Rattle.strike.specs.declared.DropOut.{DropOut}
+use Rattle.strike.specs.declared.DropEnd.the-variants.{Left, Ended as DropEnded}
 use Rattle.train.specs.Train.{lastImpact, toGround, trainFrom, train}
-use Rattle.train.specs.Contracts.{firstTally, isLast, stopR, closeR}
-use Rattle.train.specs.declared.RunOut.{RunOut}
+use Rattle.train.specs.Contracts.{LastImpacts, isLast}
 
--- a callee's equation, at the lengths that the lists had before
-sized : {A : Type 0} {o : Oracle} {m : M A} {t t' : Tally} {l l' : List Float} {x : Outcome A} {n : ℕ} → Runs o m t l x t' l' → length l ≡ n → (k : Lent)
-    → did (ran x (logOf k (n / 11) t' l')) (t' .rect) ≡ exec o (t .rect) (m (logOf k (n / 11) t l))
-sized r e k = rw e at (r .same k)
-
-sized-both : {A : Type 0} {o : Oracle} {m : M A} {n n' : ℕ} {t t' : Tally} {lc mc lp mp : List Float} {x : Outcome A} {a b : ℕ}
-    → RunsBoth o m n t lc lp x n' t' mc mp → length lc ≡ a → length lp ≡ b
-    → did (ran x (logOf (lent (a / 20) n' mc) (b / 11) t' mp)) (t' .rect) ≡ exec o (t .rect) (m (logOf (lent (a / 20) n lc) (b / 11) t lp))
-sized-both r e f = rw (e, f) at (r .same)
+-- ---- what is left of the train at each place
+abbrev pub toWay : Conditions → ℕ → Way → M Ending
+toWay c n = λ way. elim way [ Arrived b ↦ trainFrom c n b | Late b ↦ timeUp b InHop ]
 
 module _ (c : Conditions) (a : BallState) where
-  abbrev flownTo : ℕ → Struck → Flown → M Ending
-  flownTo n hit = λ flown. elim flown [
-    | Ground ↦ toGround c a hit
-    | Hop way ↦ do
-      pushContact a (hit .«at») (hit .out)
-      elim way [ Arrived b ↦ trainFrom c n b | Late b ↦ timeUp b InHop ]
-  ]
+  abbrev pub toContact : ℕ → Struck → Way → M Ending
+  toContact n hit way = pushContact a (hit .«at») (hit .out) >> toWay c n way
 
-  bodyOf : Bool → ℕ → Struck → M Ending
+  abbrev pub flownTo : ℕ → Struck → Flown → M Ending
+  flownTo n hit = λ flown. elim flown [ Ground ↦ toGround c a hit | Hop way ↦ toContact n hit way ]
+
+  pub bodyOf : Bool → ℕ → Struck → M Ending
   bodyOf r zero hit = if not r then toGround c a hit else lastImpact a hit
   bodyOf r (suc n) hit = fly c r a hit >>= flownTo n hit
 
@@ -65,147 +55,93 @@ module _ (c : Conditions) (a : BallState) where
   train-is zero = refl
   train-is (suc n) = refl
 
-module _ (o : Oracle) (q : Rect) (c : Conditions) (a : BallState) (l : Log) {x : Outcome Struck} {l1 : Log} {q1 : Rect} (e : did (ran x l1) q1 ≡ exec o q (strike c a l)) where
-  -- the look or the impact failed its test
-  train-stop : (n : ℕ) {k : ℕ} → x ≡ stops k → did (ran (stops k) l1) q1 ≡ exec o q (trainFrom c n a l)
-  train-stop n h = rw (train-is c a n) (halted o q (strike c a) _ l e h)
+  -- where the impact is not the last that max_impacts allows, the rebound is flown, or not
+  fly-is : (o : Oracle) (p : Place) (hit : Struck) (hops : Bool) (k max : ℕ) → isLast hops k max ≡ false
+      → exec o (p .tally .rect) ((fly c hops a hit >>= flownTo (max - (k + 1 + 1)) hit) (logAt p)) ≡ exec o (p .tally .rect) (bodyOf hops (max - (k + 1)) hit (logAt p))
+  unfolding bodyOf fly bind _>>=_
+  fly-is o p hit hops k max s = go hops (max - (k + 1)) refl s
+    where
+      go : (r : Bool) (n : ℕ) → n ≡ max - (k + 1) → isLast r k max ≡ false
+          → exec o (p .tally .rect) ((fly c r a hit >>= flownTo (max - (k + 1 + 1)) hit) (logAt p)) ≡ exec o (p .tally .rect) (bodyOf r n hit (logAt p))
+      go true zero z s = absurd (omega (arith, leb-false max (k + 1) s))
+      go true (suc n) z s = let y : max - (k + 1 + 1) ≡ n = omega arith in rw y
+      go false zero z s = refl
+      go false (suc n) z s = refl
 
-  module _ {hit : Struck} (h : x ≡ goes hit) {hops : Bool} (eh : hops ≡ rebounds c hit) (k max : ℕ) where
-    train-hit : (n : ℕ) {d : Did (Ran Ending)} → d ≡ exec o q1 (bodyOf c a hops n hit l1) → d ≡ exec o q (trainFrom c n a l)
-    train-hit n p = rw (train-is c a n) (went o q (strike c a) _ l e h (rw (← eh) p))
+  last-is : (hops : Bool) (hit : Struck) (k max : ℕ) → isLast hops k max ≡ true → bodyOf hops (max - (k + 1)) hit ≡ lastImpact a hit
+  unfolding bodyOf
+  last-is true hit k max s = let z : max - (k + 1) ≡ 0 = omega (arith, leb-true max (k + 1) s) in rw z
+  last-is false hit k max s = absurd (let z : _≡_ {A = ℕ} 0 1 = cc in omega arith)
 
-    -- the last impact that max_impacts allows
-    train-last : {d : Did (Ran Ending)} → isLast hops k max ≡ true → d ≡ exec o q1 (lastImpact a hit l1) → d ≡ exec o q (trainFrom c (max - (k + 1)) a l)
-    unfolding bodyOf
-    train-last {d} s p = train-hit (max - (k + 1)) (go hops s)
-      where
-        go : (r : Bool) → isLast r k max ≡ true → d ≡ exec o q1 (bodyOf c a r (max - (k + 1)) hit l1)
-        go true s = let z : max - (k + 1) ≡ 0 = omega (arith, leb-true max (k + 1) s) in rw z p
-        go false s = absurd (let z : _≡_ {A = ℕ} 0 1 = cc in omega arith)
+-- ---- a turn
 
-    -- any other: the rebound is flown, or not
-    train-fly : {y y' : Outcome Flown} {m : Log} {q2 : Rect} {d : Did (Ran Ending)} → isLast hops k max ≡ false
-        → did (ran y m) q2 ≡ exec o q1 (fly c hops a hit l1) → y ≡ y'
-        → d ≡ exec o q2 (onward (flownTo c a (max - (k + 1 + 1)) hit) y' m) → d ≡ exec o q (trainFrom c (max - (k + 1)) a l)
-    unfolding bodyOf fly bind _>>=_
-    train-fly {m = m} s f g p =
-        train-hit (max - (k + 1))
-        (ends o q1 (fly c hops a hit l1) (λ (r : Ran Flown). onward (flownTo c a (max - (k + 1 + 1)) hit) (r .outcome) (r .log)) f (ap (λ (y : Outcome Flown). ran y m) g) p
-        ∙ go hops (max - (k + 1)) refl s)
-      where
-        go : (r : Bool) (n : ℕ) → n ≡ max - (k + 1) → isLast r k max ≡ false
-            → exec o q1 (bind (fly c r a hit l1) (λ (r : Ran Flown). onward (flownTo c a (max - (k + 1 + 1)) hit) (r .outcome) (r .log))) ≡ exec o q1 (bodyOf c a r n hit l1)
-        go true zero z s = absurd (omega (arith, leb-false max (k + 1) s))
-        go true (suc n) z s = let y : max - (k + 1 + 1) ≡ n = omega arith in rw y
-        go false zero z s = refl
-        go false (suc n) z s = refl
+-- the run of w from p₀ has come to place p, and m is left of it
+abbrev pub At : Oracle → M Ending → Place → M Ending → Place → Type 0
+At o w p₀ m p = Reached o w p₀ (p .tally .steps - p₀ .tally .steps) m p
 
--- a stop, and an end of the ground or of a flight, as the code hands it back
-pub stopped : {o : Oracle} {w : M Ending} {n₀ : ℕ} {t₀ : Tally} {lc lp mc mp : List Float} {r : RunOut} {a n : ℕ} {t : Tally} → r ≡ stopR a n t
-    → RunsBoth o w n₀ t₀ lc lp (stops a) n t mc mp → RunsBoth o w n₀ t₀ lc lp (endedBy (r .end)) (r .contacts) (r .tally) mc mp
-stopped e p = rw e p
-
-pub closed : {o : Oracle} {w : M Ending} {n₀ : ℕ} {t₀ : Tally} {lc lp mc mp : List Float} {r : RunOut} {n : ℕ} {g : GroundOut} → r ≡ closeR n g
-    → RunsBoth o w n₀ t₀ lc lp (endedBy (g .end)) n (g .tally) mc mp → RunsBoth o w n₀ t₀ lc lp (endedBy (r .end)) (r .contacts) (r .tally) mc mp
-closed e p = rw e p
-
--- ---- the last impact: its contact and its point
-module _ (o : Oracle) (state : BallState) (hit : Struck) {n : ℕ} {t : Tally} {lc lp mc : List Float} {p : Pushed} (q : Pushes 20 n lc (contactOf state (hit .«at») (hit .out)) p mc) where
-  pub last-full : p ≡ Full → RunsBoth o (lastImpact state hit) n t lc lp (stops 20) n t mc lp
-  unfolding lastImpact
-  last-full z = rw (rw z at (q .kept)) (record { same = contact-full o _ _ _ _ _ _ mc (q .same) z; contacts = stay _ _ _; points = stay _ _ _ })
-
-  module _ {m : ℕ} (z : p ≡ Done m) {p2 : Pushed} {mp : List Float} (q2 : Pushes 11 (t .points) lp (pointOf (hit .out) InHop) p2 mp) where
-    pub last-no-point : p2 ≡ Full → RunsBoth o (lastImpact state hit) n t lc lp (stops 21) m t mc mp
-    unfolding lastImpact
-    last-no-point v = rw (rw v at (q2 .kept))
-        (record { same = contact-put o _ _ _ _ _ _ mc (q .same) z (point-full o _ _ _ _ _ mp (q2 .same) v); contacts = pushed-grown _ _ _ _ _ (rw z at (q .kept)); points = stay _ _ _ })
-
-    pub last-ends : {k : ℕ} {t' : Tally} → p2 ≡ Done k → t' ≡ countedT t k → RunsBoth o (lastImpact state hit) n t lc lp (goes (ending MaxImpacts (hit .out))) m t' mc mp
-    unfolding lastImpact exec
-    last-ends v e = rw e
-        (record { same = contact-put o _ _ _ _ _ _ mc (q .same) z (point-put o _ _ _ _ _ mp (q2 .same) v refl); contacts = pushed-grown _ _ _ _ _ (rw z at (q .kept)); points = pushed-grown _ _ _ _ _ (rw v at (q2 .kept)) })
-
--- ---- a turn of the loop
 module _ (o : Oracle) (c : Conditions) (landing : BallState) (lc lp : List Float) where
-  -- what the train's loop keeps: what is left from here is the whole; the lists have grown, and are as long as they were
-  pub record Along (state : BallState) (t : Tally) (n : ℕ) (mc mp : List Float) : Type 0 where
-    pub left : exec o (t .rect) (trainFrom c (c .physics .«max_impacts» - (n + 1)) state (logOf (lent (length lc / 20) n mc) (length lp / 11) t mp))
-        ≡ exec o noRect (train c landing (logOf (lent (length lc / 20) 0 lc) (length lp / 11) (firstTally landing) lp))
-    pub contacts : Grown 20 0 lc n mc
-    pub points : Grown 11 0 lp (t .points) mp
-    pub cl : length mc ≡ length lc
-    pub pl : length mp ≡ length lp
-    pub room : n * 20 ≤ length lc
+  -- what the train's loop keeps
+  pub record Along (state : BallState) (p : Place) : Type 0 where
+    pub reached : At o (train c landing) (place (firstTally landing) lc lp) (trainFrom c (c .physics .«max_impacts» - (p .tally .contacts + 1)) state) p
+    pub room : p .tally .contacts * 20 ≤ length lc
 
-  -- the whole run ends so
-  abbrev pub Ends : Outcome Ending → ℕ → Tally → List Float → List Float → Type 0
-  Ends x n t mc mp = RunsBoth o (train c landing) 0 (firstTally landing) lc lp x n t mc mp
+  -- a turn was made, by one contact more
+  pub along : (k : ℕ) (b : BallState) {t : Tally} {mc mp : List Float}
+      → At o (train c landing) (place (firstTally landing) lc lp) (trainFrom c (c .physics .«max_impacts» - (k + 1 + 1)) b) (place t mc mp)
+      → t .contacts ≡ k + 1 → t .contacts * 20 ≤ length lc → Along b (place t mc mp)
+  along k b r e h = record { reached = rw (← e) at r; room = h }
 
-  pub starts : {t : Tally} → t ≡ firstTally landing → Along landing t 0 lc lp
+  pub starts : {t : Tally} → t ≡ firstTally landing → Along landing (place t lc lp)
   unfolding train
-  starts e = rw e (record { left = refl; contacts = stay _ _ _; points = stay _ _ _; cl = refl; pl = refl; room = zero-le })
+  starts e = rw e (record { reached = begun; room = zero-le })
 
-module _ {o : Oracle} {c : Conditions} {landing : BallState} {lc lp : List Float} {state : BallState} {t : Tally} {n : ℕ} {mc mp : List Float} (here : Along o c landing lc lp state t n mc mp) where
-  -- from what follows here
-  from-here : {x : Outcome Ending} {n' : ℕ} {t' : Tally} {mc' mp' : List Float}
-      → did (ran x (logOf (lent (length lc / 20) n' mc') (length lp / 11) t' mp')) (t' .rect) ≡ exec o (t .rect) (trainFrom c (c .physics .«max_impacts» - (n + 1)) state (logOf (lent (length lc / 20) n mc) (length lp / 11) t mp))
-      → Grown 20 n mc n' mc' → Grown 11 (t .points) mp (t' .points) mp' → Ends o c landing lc lp x n' t' mc' mp'
-  from-here e g h = record { same = e ∙ here .left; contacts = grow (here .contacts) g; points = grow (here .points) h }
-
-  module _ {x1 : Outcome Struck} {t1 : Tally} (s : Runs o (strike c state) t mp x1 t1 mp) where
+module _ {o : Oracle} {w : M Ending} {p₀ : Place} (c : Conditions) (state : BallState) {t : Tally} {mc mp : List Float} where
+  module _ (n : ℕ) {r : StrikeOut} (here : At o w p₀ (trainFrom c n state) (place t mc mp)) (h : Strikes o c state t r) where
     -- the look or the impact failed its test
-    pub ends-off : {a : ℕ} → x1 ≡ stops a → Ends o c landing lc lp (stops a) n t1 mc mp
-    ends-off h = from-here (train-stop o (t .rect) c state _ (sized s (here .pl) _) _ h) (stay _ _ _) (s .grown)
+    pub struck-off : r .end ≡ Off → RunsOn o w p₀ (stops 22) (place (r .tally) mc mp)
+    struck-off v = on (ended (halted (strike c state) (λ hit. bodyOf c state (rebounds c hit) n hit) (rw (train-is c state n) at here) (rw v at (h mc mp))))
 
-    module _ {hit : Struck} (h : x1 ≡ goes hit) {hops : Bool} (eh : hops ≡ rebounds c hit) where
-      -- the last impact that max_impacts allows
-      pub ends-last : {x : Outcome Ending} {n' : ℕ} {t' : Tally} {mc' mp' : List Float} → isLast hops n (c .physics .«max_impacts») ≡ true
-          → RunsBoth o (lastImpact state hit) n t1 mc mp x n' t' mc' mp' → Ends o c landing lc lp x n' t' mc' mp'
-      ends-last l r = from-here (train-last o (t .rect) c state _ (sized s (here .pl) _) h eh n _ l (sized-both r (here .cl) (here .pl))) (r .contacts) (grow (s .grown) (r .points))
+    pub struck : {hit : Struck} {hops : Bool} → r .end ≡ Hit hit → hops ≡ rebounds c hit → At o w p₀ (bodyOf c state hops n hit) (place (r .tally) mc mp)
+    struck v e = rw e (came (went (strike c state) (λ hit. bodyOf c state (rebounds c hit) n hit) (rw (train-is c state n) at here) (rw v at (h mc mp))))
 
-      module _ (l : isLast hops n (c .physics .«max_impacts») ≡ false) {x2 : Outcome Flown} {t2 : Tally} {mp2 : List Float} (f : Runs o (fly c hops state hit) t1 mp x2 t2 mp2) where
-        -- from what follows the flight
-        after : {y : Outcome Flown} {d : Did (Ran Ending)} → x2 ≡ y
-            → d ≡ exec o (t2 .rect) (onward (flownTo c state (c .physics .«max_impacts» - (n + 1 + 1)) hit) y (logOf (lent (length lc / 20) n mc) (length lp / 11) t2 mp2))
-            → d ≡ exec o (t .rect) (trainFrom c (c .physics .«max_impacts» - (n + 1)) state (logOf (lent (length lc / 20) n mc) (length lp / 11) t mp))
-        after w e = train-fly o (t .rect) c state _ (sized s (here .pl) _) h eh n _ l (sized f (here .pl) _) w e
+  module _ (k : ℕ) (hit : Struck) (hops : Bool) (here : At o w p₀ (bodyOf c state hops (c .physics .«max_impacts» - (k + 1)) hit) (place t mc mp)) where
+    -- the last impact that max_impacts allows
+    pub ends-last : (x : RunOut) {mc' mp' : List Float} → isLast hops k (c .physics .«max_impacts») ≡ true → LastImpacts state hit t mc mp x mc' mp'
+        → RunsOn o w p₀ (endedBy x) (place (afterRun x) mc' mp')
+    ends-last x v h = on (last (rw (last-is c state hops hit k _ v) at here) (h o))
 
-        -- the hop stopped
-        pub ends-hop : {a : ℕ} → x2 ≡ stops a → Ends o c landing lc lp (stops a) n t2 mc mp2
-        unfolding exec
-        ends-hop w = from-here (after w refl) (stay _ _ _) (grow (s .grown) (f .grown))
+    -- any other
+    module _ (v : isLast hops k (c .physics .«max_impacts») ≡ false) where
+      to-fly : At o w p₀ (fly c hops state hit >>= flownTo c state (c .physics .«max_impacts» - (k + 1 + 1)) hit) (place t mc mp)
+      to-fly = said (bodyOf c state hops (c .physics .«max_impacts» - (k + 1)) hit) (fly c hops state hit >>= flownTo c state (c .physics .«max_impacts» - (k + 1 + 1)) hit) here (fly-is c state o (place t mc mp) hit hops k (c .physics .«max_impacts») v)
 
-        module _ (pl2 : length mp2 ≡ length lp) where
-          -- not flown, or discarded
-          module _ (w : x2 ≡ goes Ground) {x3 : Outcome BallState} {n3 : ℕ} {t3 : Tally} {mc3 : List Float} (d : RunsBoth o (drop c state hit) n t2 mc mp2 x3 n3 t3 mc3 mp2) where
-            pub ends-drop : {a : ℕ} → x3 ≡ stops a → Ends o c landing lc lp (stops a) n3 t3 mc3 mp2
-            unfolding toGround
-            ends-drop z = from-here (after w (halted o _ _ _ _ (sized-both d (here .cl) pl2) z)) (d .contacts) (grow (grow (s .grown) (f .grown)) (d .points))
+      pub ends-flight : {r : FlyOut} {mp' : List Float} {i : ℕ} → Flies o c hops state hit t mp r mp' → r .how ≡ FlyEnded i → RunsOn o w p₀ (stops i) (place (r .tally) mc mp')
+      ends-flight h e = on (ended (halted _ _ to-fly (rw e at (h mc))))
 
-            pub ends-ground : {leave : BallState} {x : Outcome Ending} {t4 : Tally} {mp4 : List Float} → x3 ≡ goes leave
-                → Runs o (ground c leave (hit .«at»)) t3 mp2 x t4 mp4 → Ends o c landing lc lp x n3 t4 mc3 mp4
-            unfolding toGround
-            ends-ground z r = from-here (after w (went o _ _ _ _ (sized-both d (here .cl) pl2) z (sized r pl2 _))) (d .contacts) (grow (grow (grow (s .grown) (f .grown)) (d .points)) (r .grown))
+      pub flown : {r : FlyOut} {mp' : List Float} {f : Flown} → Flies o c hops state hit t mp r mp' → r .how ≡ Went f → At o w p₀ (flownTo c state (c .physics .«max_impacts» - (k + 1 + 1)) hit f) (place (r .tally) mc mp')
+      flown h e = came (went _ _ to-fly (rw e at (h mc)))
 
-          -- flown and kept: the contact is pushed
-          module _ {way : Way} (w : x2 ≡ goes (Hop way)) {p : Pushed} {mc3 : List Float} (q : Pushes 20 n mc (contactOf state (hit .«at») (hit .out)) p mc3) where
-            pub ends-full : p ≡ Full → Ends o c landing lc lp (stops 20) n t2 mc3 mp2
-            ends-full z = rw (rw z at (q .kept)) (from-here (after w (contact-full o _ _ _ _ _ _ mc3 (rw (here .cl) at (q .same)) z)) (stay _ _ _) (grow (s .grown) (f .grown)))
+  -- not flown, or discarded
+  module _ (n : ℕ) (hit : Struck) (f : Flown) (here : At o w p₀ (flownTo c state n hit f) (place t mc mp)) where
+    module _ (v : f ≡ Ground) where
+      to-drop : At o w p₀ (drop c state hit >>= λ leave. ground c leave (hit .«at»)) (place t mc mp)
+      unfolding toGround
+      to-drop = rw v at here
 
-            module _ {m : ℕ} (z : p ≡ Done m) where
-              kept : Kept 20 n mc (Done m) mc3
-              kept = rw z at (q .kept)
+      pub ends-drop : {r : DropOut} {mc' : List Float} {i : ℕ} → Drops c state hit t mc r mc' → r .end ≡ DropEnded i → RunsOn o w p₀ (stops i) (place (r .tally) mc' mp)
+      ends-drop h e = on (ended (halted _ _ to-drop (rw e at (h o mp))))
 
-              pub goes-on : {b : BallState} → way ≡ Arrived b → length mc3 ≡ length mc → Along o c landing lc lp b t2 m mc3 mp2
-              goes-on v e = record {
-                left = after w (contact-put o _ _ _ _ _ _ mc3 (rw (here .cl) at (q .same)) z (rw (v, kept .0))) ∙ here .left;
-                contacts = grow (here .contacts) (pushed-grown _ _ _ _ _ kept);
-                points = grow (grow (here .points) (s .grown)) (f .grown);
-                cl = e ∙ here .cl;
-                pl = pl2;
-                room = rw (here .cl) at (kept .1);
-              }
+      pub dropped : {r : DropOut} {mc' : List Float} {leave : BallState} → Drops c state hit t mc r mc' → r .end ≡ Left leave → At o w p₀ (ground c leave (hit .«at»)) (place (r .tally) mc' mp)
+      dropped h e = came (went _ _ to-drop (rw e at (h o mp)))
 
-              pub ends-late : {b : BallState} {x : Outcome Ending} {t4 : Tally} {mp4 : List Float} → way ≡ Late b → Runs o (timeUp b InHop) t2 mp2 x t4 mp4 → Ends o c landing lc lp x m t4 mc3 mp4
-              ends-late v r = from-here (after w (contact-put o _ _ _ _ _ _ mc3 (rw (here .cl) at (q .same)) z (rw v (sized r pl2 _)))) (pushed-grown _ _ _ _ _ kept) (grow (grow (s .grown) (f .grown)) (r .grown))
+    -- flown and kept: the contact is due
+    pub kept : {way : Way} → f ≡ Hop way → At o w p₀ (toContact c state n hit way) (place t mc mp)
+    kept v = rw v at here
+
+-- where the hop came to
+module _ {o : Oracle} {w : M Ending} {p₀ : Place} (c : Conditions) {t : Tally} {mc mp : List Float} (n : ℕ) (way : Way) (here : At o w p₀ (toWay c n way) (place t mc mp)) where
+  pub arrived : {b : BallState} → way ≡ Arrived b → At o w p₀ (trainFrom c n b) (place t mc mp)
+  arrived v = rw v at here
+
+  pub ends-late : (x : RunOut) {b : BallState} {mp' : List Float} → way ≡ Late b → TimesUp b InHop t mp x mp' → RunsOn o w p₀ (endedBy x) (place (afterRun x) mc mp')
+  ends-late x v h = on (last (rw v at here) (h o mc))

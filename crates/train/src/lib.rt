@@ -3,11 +3,10 @@ ghost use mathlib.Core.Path.{_≡_};
 ghost use Prim.Native.Nat.{_<_};
 ghost use Rattle.course.specs.Sheet.{courseOf};
 ghost use Rattle.course.specs.Index.{Ready};
-ghost use Rattle.train.specs.Contracts.{LastImpacts, TrainRuns, firstTally, isLast, stopR, closeR};
+ghost use Rattle.train.specs.Contracts.{LastImpacts, TrainRuns, isLast};
 use ground_phase::GroundOut;
-use ground_phase::RunEnd;
+use ground_phase::RunOut;
 use hop::Way;
-use records::Pushed;
 use roll::Ending;
 use state::BallState;
 use state::Phase;
@@ -18,35 +17,8 @@ use strike::FlyEnd;
 use strike::StrikeEnd;
 use strike::Struck;
 use tally::Conditions;
+use tally::Push;
 use tally::Tally;
-
-pub struct RunOut {
-    pub end: RunEnd,
-    pub contacts: usize,
-    pub tally: Tally,
-}
-
-fn stop(a: u32, n: usize, t: Tally) -> RunOut
-    ensures { λ r. ⌜ r ≡ stopR a n t ⌝ }
-{
-    RunOut {
-        end: RunEnd::Ended(a),
-        contacts: n,
-        tally: t,
-    }
-}
-
-fn close(n: usize, g: GroundOut) -> RunOut
-    ensures { λ r. ⌜ r ≡ closeR n g ⌝ }
-{
-    let end = g.end;
-    let t = g.tally;
-    RunOut {
-        end,
-        contacts: n,
-        tally: t,
-    }
-}
 
 // Whether this impact rebounds and is the last that max_impacts allows.
 fn is_last(hops: bool, n: usize, max_impacts: u64) -> bool
@@ -60,45 +32,29 @@ fn is_last(hops: bool, n: usize, max_impacts: u64) -> bool
     }
 }
 
+// The last impact that max_impacts allows: its contact and its point.
 fn last_impact(
     contacts: &mut [f64],
     points: &mut [f64],
-    n: usize,
     state: BallState,
     hit: Struck,
     t: Tally,
 ) -> RunOut
-    ensures { λ r. ⌜ LastImpacts n state hit t (now (contacts .entry)) (now (points .entry)) r (now (contacts .exit)) (now (points .exit)) ⌝ }
+    ensures { λ r. ⌜ LastImpacts state hit t (now (contacts .entry)) (now (points .entry)) r (now (contacts .exit)) (now (points .exit)) ⌝ }
 {
     let at = hit.at;
     let out = hit.out;
-    let push = tally::push_contact(contacts, n, state, at, out);
-    let Pushed::Done(m) = push else {
-        return stop(20, n, t);
+    let Push::Made(t1) = tally::push_contact(contacts, t, state, at, out) else {
+        return RunOut::Ended(20, t);
     };
-    let point = tally::push_point(points, t.points, out, Phase::Hop);
-    let Pushed::Done(p) = point else {
-        return stop(21, m, t);
+    let Push::Made(t2) = tally::push_point(points, t1, out, Phase::Hop) else {
+        return RunOut::Ended(21, t1);
     };
-    RunOut {
-        end: RunEnd::Over(Ending {
-            how: Termination::MaxImpacts,
-            state: out,
-        }),
-        contacts: m,
-        tally: tally::counted(t, p),
-    }
-}
-
-fn first_tally(landing: BallState) -> Tally
-    ensures { λ r. ⌜ r ≡ firstTally landing ⌝ }
-{
-    Tally {
-        steps: 0,
-        points: 0,
-        good: landing,
-        rect: look::no_rect(),
-    }
+    let end = Ending {
+        how: Termination::MaxImpacts,
+        state: out,
+    };
+    RunOut::Over(end, t2)
 }
 
 pub fn run(
@@ -115,26 +71,25 @@ pub fn run(
     let physics = c.physics;
     let max_impacts = physics.max_impacts;
     let mut state = landing;
-    let mut t = first_tally(landing);
-    let mut n: usize = 0;
+    let mut t = tally::first_tally(landing);
     // Impacts and the hops between them.
     let at = loop {
         let struck = strike::strike(sheet, index, c, state, t);
         let t1 = struck.tally;
         let strike_end = struck.end;
         let StrikeEnd::Hit(hit) = strike_end else {
-            return stop(22, n, t1);
+            return RunOut::Ended(22, t1);
         };
         let hops = strike::rebounds(c, hit);
-        if is_last(hops, n, max_impacts) {
-            return last_impact(contacts, points, n, state, hit, t1);
+        if is_last(hops, t.contacts, max_impacts) {
+            return last_impact(contacts, points, state, hit, t1);
         }
         let flight = strike::fly(sheet, index, points, c, hops, state, hit, t1);
         let t2 = flight.tally;
         let how = flight.how;
         let flown = match how {
             FlyEnd::Ended(a) => {
-                return stop(a, n, t2);
+                return RunOut::Ended(a, t2);
             }
             FlyEnd::Went(w) => w,
         };
@@ -142,40 +97,38 @@ pub fn run(
         let out = hit.out;
         let Flown::Hop(way) = flown else {
             // Not flown, or discarded: the ball drops to the ground here.
-            let drop = strike::drop_to_ground(contacts, c, n, state, hit, t2);
+            let drop = strike::drop_to_ground(contacts, c, state, hit, t2);
             let t3 = drop.tally;
-            let m = drop.contacts;
             let drop_end = drop.end;
             match drop_end {
                 DropEnd::Ended(a) => {
-                    return stop(a, m, t3);
+                    return RunOut::Ended(a, t3);
                 }
                 DropEnd::Left(leave) => {
-                    n = m;
                     t = t3;
                     state = leave;
                 }
             }
             break at;
         };
-        let push = tally::push_contact(contacts, n, state, at, out);
-        let Pushed::Done(m) = push else {
-            return stop(20, n, t2);
+        let Push::Made(t3) = tally::push_contact(contacts, t2, state, at, out) else {
+            return RunOut::Ended(20, t2);
         };
         match way {
             Way::Arrived(b) => {
-                n = m;
-                t = t2;
+                t = t3;
                 state = b;
             }
             Way::Late(b) => {
-                return close(m, ground_phase::time_up(points, b, Phase::Hop, t2));
+                return ground_phase::time_up(points, t3, b, Phase::Hop);
             }
         }
     };
     // The ground, from the last sample on.
-    close(
-        n,
-        ground_phase::ground(sheet, index, points, c, state, at, t),
-    )
+    let roll = ground_phase::roll_of(state, at);
+    let ground = ground_phase::ground(sheet, index, points, c, roll, t);
+    match ground {
+        GroundOut::Ran(r) => r,
+        GroundOut::Due(_, after) => RunOut::Ended(23, after),
+    }
 }

@@ -1,138 +1,176 @@
--- One pass: the step is counted and its end tested, then the looks in order, then the arrival's test or the sample point.
+-- One pass of a hop: how far it has come at each place, and what it comes to where it ends.
 use borrow.Author.Needs.{needs}
 use native.Mathlib.Omega.{arith}
-use mathlib.Core.Path.{refl, ap, _∙_, sym}
-use borrow.Author.Tests.{not-true, not-false}
-use Rattle.look.specs.Tree.{exec}
-use Rattle.tally.specs.Words.{test-ok, test-bad, due-put, due-full}
-use Rattle.tally.specs.Lists.{stay}
-use Rattle.arrival.specs.Contracts.{valueBy, arrivalBy}
-use Rattle.hop.specs.Hop.{hopNext}
-use Rattle.hop.proofs.Pass.{end-bad, end-off, arrival-off, step-made}
+use mathlib.Core.List.{List, []}
+use mathlib.Core.Path.{refl}
+use lib.Ieee.{Float}
+use Rattle.state.specs.declared.BallState.{BallState}
+use Rattle.course.specs.Sheet.{courseOf}
+use Rattle.tally.specs.Language.{M, Pass}
+use Rattle.tally.specs.Contracts.{place, Reached}
+use Rattle.tally.specs.declared.Tally.{Tally}
+use Rattle.tally.proofs.Reached.{ended, state-good, state-bad, due-pushed, due-full}
+use Rattle.arrival.specs.declared.Arc.{Arc}
+use Rattle.arrival.proofs.Ways.{cleared, clear-off, arrived, none-arrived, arrive-off}
+use Rattle.hop.specs.Hop.{hopNext, hopStep}
+use Rattle.hop.specs.declared.Flight.{Flight}
+use Rattle.hop.specs.declared.Way.{Way}
+use Rattle.hop.proofs.Pass.{toTest, toClear, toArrive, toDue, stepped, not-met}
 use Rattle.hop.proofs.hop_step.Statement.{statement}
 use Rattle.hop.proofs.hop_step.Tie as tie
 
-stepped-requires : tie.Need-stepped-requires
-stepped-requires c κs = omega (arith, c .before .before .before .before .before .before .pre .1, c .before .before .before .before .before .before .good .1 .1 .1 .0)
+-- ---- the places on the way, each from a later one
 
-returns : tie.Need-returns
-returns c =
-    rw (c .before .before .stepped .ensures)
-    (record {
-      same = λ k.
-          end-bad _ _ _ _ _ _ (c .before .before .before .before .step-arc .ensures) (c .before .before .before .step-end .ensures) (sym (c .before .state-ok .ensures) ∙ not-true (c .before .state-ok .result) (c .if1 .taken));
-      count = refl;
-      grown = stay _ _ _;
-    })
+abbrev start : tie.After-step-arc → tie.Start
+start c = c .before .before .before .before .before
 
-clearance-requires : tie.Need-clearance-requires
-clearance-requires c κs = c .before .before .before .before .before .before .before .before .before .before .before .before .pre .0
+abbrev step : tie.After-test → tie.After-step-arc
+step c = c .before .before .before
 
-enum-known-what : tie.Need-enum-known-what
-enum-known-what c = search needs
+abbrev test : tie.After-t2 → tie.After-test
+test c = c .before .before
+
+abbrev good : tie.After-clear → tie.After-t2
+good c = c .before .before .before
+
+abbrev clear : tie.After-end → tie.After-clear
+clear c = c .before .before
+
+abbrev end : tie.After-arrive → tie.After-end
+end c = c .before .before .before
+
+-- ---- what is known there
+
+-- the pass has come to a tally t, and `rest` is left of it, whatever the contacts are; no point is pushed
+abbrev Came : tie.After-test → (Flight → Arc → M (Pass Flight Way)) → Tally → Type 0
+Came c rest t =
+    let a = start (step c) .args in
+    (lc : List Float) → Reached (courseOf (a .sheet .now)) (hopStep (a .c) (a .aero) (a .f)) (place (a .t) lc (a .points .now)) 1
+    (rest (a .f) (step c .step-arc .result)) (place t lc (a .points .now))
+
+abbrev ball : tie.After-test → BallState
+ball c = c .before .before .step-end .result
+
+came-step : (c : tie.After-test) → Came c toTest (c .before .count-step .result)
+came-step c lc = stepped _ _ _ (step c .step-arc .ensures) (c .before .count-step .ensures)
+
+came-test : (c : tie.After-t2) → let t = test c in Came t (λ f arc. toClear f arc (ball t)) (c .t2 .given .0 .0)
+came-test c lc = let t = test c in state-good _ (came-step t lc) (t .before .before .step-end .ensures) (t .test .ensures) (c .t2 .given .1)
+
+came-clear : (c : tie.After-end) → let t = test (good (clear c)) in Came t (λ f arc. toArrive f arc (ball t) (c .end .given .0 .0))
+    (c .end .given .0 .1 .0)
+came-clear c lc = cleared _ _ (came-test (good (clear c)) lc) (clear c .clear .ensures) (c .end .given .1)
+
+-- no crossing, and whether a point is due
+came-none : (c : tie.After-push-due) → let m = c .before .before .before .before in
+    Came (test (good (clear (end (m .before .before)))))
+        (λ f arc. toDue f (ball (test (good (clear (end (m .before .before)))))) (c .before .before .is-due .result)) (m .met3 .given .0 .0)
+came-none c lc =
+    let m = c .before .before .before .before in
+    let a = m .before .before in
+    not-met _ _ (none-arrived _ _ _ _ _ (came-clear (end a) lc) (a .arrive .ensures) (m .met3 .given .1)) (c .before .before .is-due .ensures)
+
+-- ---- the answers
+
+count-step-requires : tie.Need-count-step-requires
+count-step-requires c κs =
+    let at-start = c .before .before .before .before .before .before in
+    omega (arith, at-start .pre .1, at-start .good)
+
+enum-known-t2 : tie.Need-enum-known-t2
+enum-known-t2 c = search needs
 
 enum-told : tie.Need-enum-told
 enum-told c = search needs
 
-returns-2 : tie.Need-returns-2
-returns-2 c =
-    rw (c .before .before .looked .ensures, c .before .before .before .before .before .before .before .tested .ensures, c .before .before .before .before .before .before .before .before .before .before .stepped .ensures)
-    (record {
-      same = λ k.
-          end-off _ _ _ _ _ _ (c .before .before .before .before .before .before .before .before .before .before .before .before .step-arc .ensures) (c .before .before .before .before .before .before .before .before .before .before .before .step-end .ensures) (sym (c .before .before .before .before .before .before .before .before .before .state-ok .ensures) ∙ not-false (c .before .before .before .before .before .before .before .before .before .state-ok .result) (c .before .before .before .before .before .before .before .before .if1 .left)) (c .before .before .before .before .clearance .ensures _) (ap valueBy (c .enum-told .given .1));
-      count = refl;
-      grown = stay _ _ _;
-    })
+returns : tie.Need-returns
+returns c lc =
+    let t = c .before .before in
+    ended (state-bad _ (came-step t lc) (t .before .before .step-end .ensures) (t .test .ensures) (c .enum-told .given .1))
 
-hop-arrival-requires : tie.Need-hop-arrival-requires
-hop-arrival-requires c κs = c .before .before .before .before .before .before .before .before .before .before .before .before .before .before .before .before .before .before .before .pre .0
+clear-requires : tie.Need-clear-requires
+clear-requires c κs = start (step (test (c .before .before))) .pre .0
+
+enum-known-end : tie.Need-enum-known-end
+enum-known-end c = search needs
 
 enum-told-2 : tie.Need-enum-told-2
 enum-told-2 c = search needs
 
-enum-known-how : tie.Need-enum-known-how
-enum-known-how c = search needs
+returns-2 : tie.Need-returns-2
+returns-2 c lc =
+    let l = c .before .before in
+    ended (clear-off _ _ (came-test (good l) lc) (l .clear .ensures) (c .enum-told2 .given .1))
+
+arrive-requires : tie.Need-arrive-requires
+arrive-requires c κs = start (step (test (good (clear (c .before .before))))) .pre .0
+
+enum-known-met : tie.Need-enum-known-met
+enum-known-met c = search needs
+
+enum-known-met-2 : tie.Need-enum-known-met-2
+enum-known-met-2 c = search needs
+
+enum-known-t5 : tie.Need-enum-known-t5
+enum-known-t5 c = search needs
 
 enum-told-3 : tie.Need-enum-told-3
 enum-told-3 c = search needs
 
-enum-known-push : tie.Need-enum-known-push
-enum-known-push c = search needs
+returns-3 : tie.Need-returns-3
+unfolding hopNext
+returns-3 c lc =
+    let at-met2 = c .before .before .before .before in
+    let m = at-met2 in
+    let a = m .before .before in
+    ended (state-bad _ (arrived _ _ _ _ _ (came-clear (end a) lc) (a .arrive .ensures) (m .met2 .given .1)) refl (c .before .before .test2 .ensures)
+        (c .enum-told3 .given .1))
+
+enum-known-met-3 : tie.Need-enum-known-met-3
+enum-known-met-3 c = search needs
+
+enum-known-t5-2 : tie.Need-enum-known-t5-2
+enum-known-t5-2 c = search needs
 
 enum-told-4 : tie.Need-enum-told-4
 enum-told-4 c = search needs
 
 same-length : tie.Need-same-length
-same-length c = search needs
-
-returns-3 : tie.Need-returns-3
-unfolding hopNext
-returns-3 c =
-    rw (c .before .before .before .before .before .before .before .before .before .looked2 .ensures, c .before .before .before .before .before .before .before .before .before .before .before .before .before .before .before .before .looked .ensures, c .before .before .before .before .before .before .before .before .before .before .before .before .before .before .before .before .before .before .before .before .before .tested .ensures, c .before .before .before .before .before .before .before .before .before .before .before .before .before .before .before .before .before .before .before .before .before .before .before .before .stepped .ensures, rw (c .enum-told4 .given .1) at (c .before .before .before .before .push-due .ensures .kept))
-    (record {
-      same = λ k.
-          step-made _ _ _ _ _ _ (c .before .before .before .before .before .before .before .before .before .before .before .before .before .before .before .before .before .before .before .before .before .before .before .before .before .before .step-arc .ensures) (c .before .before .before .before .before .before .before .before .before .before .before .before .before .before .before .before .before .before .before .before .before .before .before .before .before .step-end .ensures)
-          (sym (c .before .before .before .before .before .before .before .before .before .before .before .before .before .before .before .before .before .before .before .before .before .before .before .state-ok .ensures) ∙ not-false (c .before .before .before .before .before .before .before .before .before .before .before .before .before .before .before .before .before .before .before .before .before .before .before .state-ok .result) (c .before .before .before .before .before .before .before .before .before .before .before .before .before .before .before .before .before .before .before .before .before .before .if1 .left))
-          (c .before .before .before .before .before .before .before .before .before .before .before .before .before .before .before .before .before .before .clearance .ensures _) (ap valueBy (c .before .before .before .before .before .before .before .before .before .before .before .before .before .before .what .given .1)) (c .before .before .before .before .before .before .before .before .before .before .before .hop-arrival .ensures _) (ap arrivalBy (c .before .before .before .before .before .before .before .enum-told3 .given .1))
-          (rw (← c .before .before .before .before .before .before .is-due .ensures) (due-full _ _ _ _ _ _ _ _ (c .before .before .before .before .push-due .ensures .same) (c .enum-told4 .given .1)));
-      count = refl;
-      grown = stay _ _ _;
-    })
+same-length c =
+    let at-push-due = c .before .before .before .before in
+    at-push-due .push-due .kept .1 .0
 
 returns-4 : tie.Need-returns-4
-returns-4 c =
-    rw (c .before .before .looked2 .ensures, c .before .before .before .before .before .before .before .before .before .looked .ensures, c .before .before .before .before .before .before .before .before .before .before .before .before .before .before .tested .ensures, c .before .before .before .before .before .before .before .before .before .before .before .before .before .before .before .before .before .stepped .ensures)
-    (record {
-      same = λ k.
-          arrival-off _ _ _ _ _ _ (c .before .before .before .before .before .before .before .before .before .before .before .before .before .before .before .before .before .before .before .step-arc .ensures) (c .before .before .before .before .before .before .before .before .before .before .before .before .before .before .before .before .before .before .step-end .ensures) (sym (c .before .before .before .before .before .before .before .before .before .before .before .before .before .before .before .before .state-ok .ensures) ∙ not-false (c .before .before .before .before .before .before .before .before .before .before .before .before .before .before .before .before .state-ok .result) (c .before .before .before .before .before .before .before .before .before .before .before .before .before .before .before .if1 .left)) (c .before .before .before .before .before .before .before .before .before .before .before .clearance .ensures _) (ap valueBy (c .before .before .before .before .before .before .before .what .given .1)) (c .before .before .before .before .hop-arrival .ensures _) (ap arrivalBy (c .enum-told2 .given .1));
-      count = refl;
-      grown = stay _ _ _;
-    })
+returns-4 c lc =
+    let at-push-due = c .before .before .before .before in
+    let p = at-push-due in
+    ended (due-full _ _ _ _ (came-none p lc) (p .push-due .ensures) (c .enum-told4 .given .1))
 
 returns-5 : tie.Need-returns-5
-unfolding exec hopNext
-returns-5 c =
-    rw (c .tested2 .ensures, c .before .before .before .before .before .before .looked2 .ensures, c .before .before .before .before .before .before .before .before .before .before .before .before .before .looked .ensures, c .before .before .before .before .before .before .before .before .before .before .before .before .before .before .before .before .before .before .tested .ensures, c .before .before .before .before .before .before .before .before .before .before .before .before .before .before .before .before .before .before .before .before .before .stepped .ensures)
-    (record {
-      same = λ k.
-          step-made _ _ _ _ _ _ (c .before .before .before .before .before .before .before .before .before .before .before .before .before .before .before .before .before .before .before .before .before .before .before .step-arc .ensures) (c .before .before .before .before .before .before .before .before .before .before .before .before .before .before .before .before .before .before .before .before .before .before .step-end .ensures)
-          (sym (c .before .before .before .before .before .before .before .before .before .before .before .before .before .before .before .before .before .before .before .before .state-ok .ensures) ∙ not-false (c .before .before .before .before .before .before .before .before .before .before .before .before .before .before .before .before .before .before .before .before .state-ok .result) (c .before .before .before .before .before .before .before .before .before .before .before .before .before .before .before .before .before .before .before .if1 .left))
-          (c .before .before .before .before .before .before .before .before .before .before .before .before .before .before .before .clearance .ensures _) (ap valueBy (c .before .before .before .before .before .before .before .before .before .before .before .what .given .1)) (c .before .before .before .before .before .before .before .before .hop-arrival .ensures _) (ap arrivalBy (c .before .before .before .before .how .given .1))
-          (test-ok _ _ _ _ refl (sym (c .before .before .state-ok2 .ensures) ∙ c .before .if2 .taken) refl);
-      count = refl;
-      grown = stay _ _ _;
-    })
+returns-5 c lc =
+    let at-arrive = c .before .before .before in
+    let a = at-arrive in
+    ended (arrive-off _ _ _ _ _ (came-clear (end a) lc) (a .arrive .ensures) (c .before .met .given .1))
 
 returns-6 : tie.Need-returns-6
 unfolding hopNext
-returns-6 c =
-    rw (c .before .before .before .before .before .looked2 .ensures, c .before .before .before .before .before .before .before .before .before .before .before .before .looked .ensures, c .before .before .before .before .before .before .before .before .before .before .before .before .before .before .before .before .before .tested .ensures, c .before .before .before .before .before .before .before .before .before .before .before .before .before .before .before .before .before .before .before .before .stepped .ensures)
-    (record {
-      same = λ k.
-          step-made _ _ _ _ _ _ (c .before .before .before .before .before .before .before .before .before .before .before .before .before .before .before .before .before .before .before .before .before .before .step-arc .ensures) (c .before .before .before .before .before .before .before .before .before .before .before .before .before .before .before .before .before .before .before .before .before .step-end .ensures)
-          (sym (c .before .before .before .before .before .before .before .before .before .before .before .before .before .before .before .before .before .before .before .state-ok .ensures) ∙ not-false (c .before .before .before .before .before .before .before .before .before .before .before .before .before .before .before .before .before .before .before .state-ok .result) (c .before .before .before .before .before .before .before .before .before .before .before .before .before .before .before .before .before .before .if1 .left))
-          (c .before .before .before .before .before .before .before .before .before .before .before .before .before .before .clearance .ensures _) (ap valueBy (c .before .before .before .before .before .before .before .before .before .before .what .given .1)) (c .before .before .before .before .before .before .before .hop-arrival .ensures _) (ap arrivalBy (c .before .before .before .how .given .1))
-          (test-bad _ _ _ _ refl (sym (c .before .state-ok2 .ensures) ∙ c .if2 .left));
-      count = refl;
-      grown = stay _ _ _;
-    })
+returns-6 c lc =
+    let at-test2 = c .before .before .before in
+    let m = at-test2 .before .before in
+    let a = m .before .before in
+    ended (state-good _ (arrived _ _ _ _ _ (came-clear (end a) lc) (a .arrive .ensures) (m .met2 .given .1)) refl (at-test2 .test2 .ensures)
+        (c .before .t5 .given .1))
 
 same-length-2 : tie.Need-same-length-2
-same-length-2 c = search needs
+same-length-2 c =
+    let at-push-due = c .before .before .before .before .before .before in
+    at-push-due .push-due .kept .1 .0
 
 returns-7 : tie.Need-returns-7
-unfolding exec hopNext
-returns-7 c =
-    rw (c .counted .ensures, c .before .before .before .before .before .before .before .before .before .before .before .before .looked2 .ensures, c .before .before .before .before .before .before .before .before .before .before .before .before .before .before .before .before .before .before .before .looked .ensures, c .before .before .before .before .before .before .before .before .before .before .before .before .before .before .before .before .before .before .before .before .before .before .before .before .tested .ensures, c .before .before .before .before .before .before .before .before .before .before .before .before .before .before .before .before .before .before .before .before .before .before .before .before .before .before .before .stepped .ensures)
-    (record {
-      same = λ k.
-          step-made _ _ _ _ _ _ (c .before .before .before .before .before .before .before .before .before .before .before .before .before .before .before .before .before .before .before .before .before .before .before .before .before .before .before .before .before .step-arc .ensures) (c .before .before .before .before .before .before .before .before .before .before .before .before .before .before .before .before .before .before .before .before .before .before .before .before .before .before .before .before .step-end .ensures)
-          (sym (c .before .before .before .before .before .before .before .before .before .before .before .before .before .before .before .before .before .before .before .before .before .before .before .before .before .before .state-ok .ensures) ∙ not-false (c .before .before .before .before .before .before .before .before .before .before .before .before .before .before .before .before .before .before .before .before .before .before .before .before .before .before .state-ok .result) (c .before .before .before .before .before .before .before .before .before .before .before .before .before .before .before .before .before .before .before .before .before .before .before .before .before .if1 .left))
-          (c .before .before .before .before .before .before .before .before .before .before .before .before .before .before .before .before .before .before .before .before .before .clearance .ensures _) (ap valueBy (c .before .before .before .before .before .before .before .before .before .before .before .before .before .before .before .before .before .what .given .1)) (c .before .before .before .before .before .before .before .before .before .before .before .before .before .before .hop-arrival .ensures _) (ap arrivalBy (c .before .before .before .before .before .before .before .before .before .before .enum-told3 .given .1))
-          (rw (← c .before .before .before .before .before .before .before .before .before .is-due .ensures) (due-put _ _ _ _ _ _ _ _ (c .before .before .before .before .before .before .before .push-due .ensures .same) (c .before .before .before .push .given .1) (rw (c .before .next-after .ensures))));
-      count = refl;
-      grown = rw (c .before .before .before .push .given .1) at (c .before .before .before .before .before .before .before .push-due .ensures .kept);
-    })
+returns-7 c lc =
+    let at-push-due = c .before .before .before .before .before .before in
+    let p = at-push-due in
+    rw (c .next-after .ensures) (ended (due-pushed _ _ _ _ (came-none p lc) (p .push-due .ensures) (c .before .before .t52 .given .1)))
 
 pub hop-step-spec : {M : Type 1} → statement M
 hop-step-spec =
@@ -140,31 +178,30 @@ hop-step-spec =
     (tie.spec
     (λ c κs. tt)
     (λ c κs. tt)
-    stepped-requires
+    count-step-requires
     (λ c κs. tt)
-    returns
-    (λ c κs. tt)
-    clearance-requires
-    (λ c κs. tt)
-    enum-known-what
+    enum-known-t2
     enum-told
-    returns-2
-    hop-arrival-requires
-    (λ c κs. tt)
+    returns
+    clear-requires
+    enum-known-end
     enum-told-2
-    enum-known-how
+    returns-2
+    arrive-requires
+    enum-known-met
+    enum-known-met-2
     (λ c κs. tt)
-    (λ c κs. tt)
+    enum-known-t5
     enum-told-3
+    returns-3
+    enum-known-met-3
     (λ c κs. tt)
     (λ c κs. tt)
-    enum-known-push
+    enum-known-t5-2
     enum-told-4
     same-length
-    returns-3
-    (λ c κs. tt)
-    (λ c κs. tt)
     returns-4
+    (λ c κs. tt)
     returns-5
     returns-6
     same-length-2

@@ -1,19 +1,96 @@
--- One pass of the ground.
+-- One pass of the ground: how far it has come at each place, and what it comes to where it ends.
 use borrow.Author.Needs.{needs}
-use borrow.Author.Tests.{not-true, not-false}
-use mathlib.Core.Path.{refl, _∙_, sym}
-use Rattle.look.specs.Tree.{exec}
-use Rattle.tally.specs.Lists.{stay, grow, pushed-grown}
-use Rattle.tally.specs.Words.{point-put, point-full}
-use Rattle.roll.proofs.Pass.{no-room, spot-off, state-bad, state-good}
+use mathlib.Core.Path.{_∙_}
+use mathlib.Core.Bool.{Bool}
+use mathlib.Core.List.{List, []}
+use lib.Ieee.{Float}
+use Rattle.state.specs.declared.BallState.{BallState}
+use Rattle.surface.specs.declared.GroundSample.{GroundSample}
+use Rattle.rolling.specs.declared.Stepped.{Stepped}
+use Rattle.course.specs.Sheet.{courseOf}
+use Rattle.tally.specs.Language.{M, Pass}
+use Rattle.tally.specs.Contracts.{place, Reached}
+use Rattle.tally.specs.declared.Conditions.{Conditions}
+use Rattle.tally.specs.declared.Tally.{Tally}
+use Rattle.tally.proofs.Reached.{ended, spot-seen, spot-off, state-good, state-bad, due-pushed, due-full, point-pushed, points-full, not-left, not-taken}
+use Rattle.roll.specs.Roll.{groundStep}
+use Rattle.roll.specs.declared.Roll.{Roll}
+use Rattle.roll.specs.declared.Ending.{Ending}
+use Rattle.roll.proofs.Pass.{toPush, toLook, toTest, toHeld, toRest, stepped}
 use Rattle.roll.proofs.ground_step.Statement.{statement}
 use Rattle.roll.proofs.ground_step.Tie as tie
 
-stepped-requires : tie.Need-stepped-requires
-stepped-requires c κs = search needs
+-- ---- the places on the way, each from a later one
 
-enum-known-push : tie.Need-enum-known-push
-enum-known-push c = search needs
+abbrev start : tie.After-step-on → tie.Start
+start c = c .before .before .before .before .before
+
+abbrev step : tie.After-push-due → tie.After-step-on
+step c = c .before .before .before .before
+
+abbrev push : tie.After-t2 → tie.After-push-due
+push c = c .before .before .before .before
+
+abbrev on-push : tie.After-look → tie.After-t2
+on-push c = c .before .before .before .before
+
+abbrev look : tie.After-under → tie.After-look
+look c = c .before .before
+
+abbrev seen : tie.After-test → tie.After-under
+seen c = c .before .before .before
+
+abbrev test : tie.After-t4 → tie.After-test
+test c = c .before .before
+
+abbrev good : tie.After-held → tie.After-t4
+good c = c .before .before
+
+abbrev held : tie.After-push-point → tie.After-held
+held c = c .before .before .before
+
+-- ---- what is known there
+
+-- the pass has come to a tally t and points l, and `rest` is left of it, whatever the contacts are
+abbrev Came : tie.After-push-due → (Conditions → Roll → Stepped → Bool → M (Pass Roll Ending)) → Tally → List Float → Type 0
+Came c rest t l =
+    let a = start (step c) .args in
+    (lc : List Float) → Reached (courseOf (a .sheet .now)) (groundStep (a .c) (a .g)) (place (a .t) lc (a .points .now)) 1
+    (rest (a .c) (a .g) (step c .step-on .result) (c .before .before .point-due .result)) (place t lc l)
+
+abbrev points : tie.After-push-due → List Float
+points c = c .push-due .last .1 .0
+
+abbrev under : tie.After-under → GroundSample
+under c = c .under .given .0 .0
+
+abbrev ball : tie.After-test → BallState
+ball c = c .before .put-down .result
+
+came-step : (c : tie.After-push-due) → Came c toPush (c .before .before .before .count-step .result) (start (step c) .args .points .now)
+came-step c lc = stepped _ _ (step c .step-on .ensures) (c .before .before .point-due .ensures) (c .before .before .before .count-step .ensures)
+
+came-push : (c : tie.After-t2) → Came (push c) toLook (c .t2 .given .0 .0) (points (push c))
+came-push c lc = due-pushed _ _ _ _ (came-step (push c) lc) (push c .push-due .ensures) (c .t2 .given .1)
+
+came-look : (c : tie.After-under) → let p = on-push (look c) in Came (push p) (λ e g s d. toTest e g s d (under c)) (c .under .given .0 .1 .0) (points (push p))
+came-look c lc = spot-seen _ _ _ (came-push (on-push (look c)) lc) (look c .look .ensures) (c .under .given .1)
+
+came-test : (c : tie.After-t4) → let u = seen (test c) in let p = on-push (look u) in
+    Came (push p) (λ e g s d. toHeld e g s d (under u) (ball (test c))) (c .t4 .given .0 .0) (points (push p))
+came-test c lc = state-good _ (came-look (seen (test c)) lc) (test c .before .put-down .ensures) (test c .test .ensures) (c .t4 .given .1)
+
+came-held : (c : tie.After-push-point) → let d = held c in let u = seen (test (good d)) in let p = on-push (look u) in
+    Came (push p) (λ e g s d. toRest (ball (test (good (held c))))) (good d .t4 .given .0 .0) (points (push p))
+came-held c lc = not-taken _ _ _ (came-test (good (held c)) lc) (held c .held .ensures) (c .before .before .if1 .taken)
+
+-- ---- the answers
+
+count-step-requires : tie.Need-count-step-requires
+count-step-requires c κs = search needs
+
+enum-known-t2 : tie.Need-enum-known-t2
+enum-known-t2 c = search needs
 
 enum-told : tie.Need-enum-told
 enum-told c = search needs
@@ -22,119 +99,105 @@ same-length : tie.Need-same-length
 same-length c = c .before .before .before .before .push-due .kept .1 .0
 
 returns : tie.Need-returns
-returns c = rw (c .before .before .before .before .before .before .before .stepped .ensures, rw (c .enum-told .given .1) at (c .before .before .before .before .push-due .ensures .kept))
-    (record {
-      same = λ k. no-room _ _ _ _ _ (c .before .before .before .before .before .before .before .before .before .step-on .ensures) (c .before .before .before .before .before .before .point-due .ensures) _ (rw (c .before .before .before .before .before .before .before .stepped .ensures) at (c .before .before .before .before .push-due .ensures .same)) (c .enum-told .given .1);
-      count = refl;
-      grown = stay _ _ _;
-    })
+returns c lc =
+    let p = c .before .before .before .before in
+    ended (due-full _ _ _ _ (came-step p lc) (p .push-due .ensures) (c .enum-told .given .1))
 
-look-at-requires : tie.Need-look-at-requires
-look-at-requires c κs = c .before .before .before .before .before .before .before .before .before .before .before .before .before .before .before .before .before .pre .0
+look-requires : tie.Need-look-requires
+look-requires c κs = start (step (push (c .before .before .before))) .pre .0
 
-enum-known-what : tie.Need-enum-known-what
-enum-known-what c = search needs
+enum-known-under : tie.Need-enum-known-under
+enum-known-under c = search needs
 
 enum-told-2 : tie.Need-enum-told-2
 enum-told-2 c = search needs
 
 same-length-2 : tie.Need-same-length-2
-same-length-2 c = c .before .before .before .before .before .before .before .before .before .before .before .before .push-due .kept .1 .0
+same-length-2 c = came-push (on-push (c .before .before)) [] .points .long
 
 returns-2 : tie.Need-returns-2
-returns-2 c = rw (c .before .before .looked .ensures, c .before .before .before .before .before .before .counted .ensures, c .before .before .before .before .before .before .before .before .before .before .before .before .before .before .before .stepped .ensures)
-    (record {
-      same = λ k. spot-off _ _ _ _ _ (c .before .before .before .before .before .before .before .before .before .before .before .before .before .before .before .before .before .step-on .ensures) (c .before .before .before .before .before .before .before .before .before .before .before .before .before .before .point-due .ensures) _ (rw (c .before .before .before .before .before .before .before .before .before .before .before .before .before .before .before .stepped .ensures) at (c .before .before .before .before .before .before .before .before .before .before .before .before .push-due .ensures .same)) (c .before .before .before .before .before .before .before .before .push .given .1) (rw (c .before .before .before .before .before .before .counted .ensures, c .before .before .before .before .before .before .before .before .before .before .before .before .before .before .before .stepped .ensures) at (c .before .before .before .before .look-at .ensures)) (c .enum-told2 .given .1);
-      count = refl;
-      grown = rw (c .before .before .before .before .before .before .before .before .push .given .1, c .before .before .before .before .before .before .before .before .before .before .before .before .before .before .before .stepped .ensures) at (c .before .before .before .before .before .before .before .before .before .before .before .before .push-due .ensures .kept);
-    })
+returns-2 c lc =
+    let l = c .before .before in
+    ended (spot-off _ _ _ (came-push (on-push l) lc) (l .look .ensures) (c .enum-told2 .given .1))
 
-same-length-3 : tie.Need-same-length-3
-same-length-3 c = c .before .before .before .before .before .before .before .before .before .before .before .before .before .before .before .before .push-due .kept .1 .0
-
-returns-3 : tie.Need-returns-3
-returns-3 c = rw (c .before .before .before .before .before .before .looked .ensures, c .before .before .before .before .before .before .before .before .before .before .counted .ensures, c .before .before .before .before .before .before .before .before .before .before .before .before .before .before .before .before .before .before .before .stepped .ensures)
-    (record {
-      same = λ k. state-bad _ _ _ _ _ (c .before .before .before .before .before .before .before .before .before .before .before .before .before .before .before .before .before .before .before .before .before .step-on .ensures) (c .before .before .before .before .before .before .before .before .before .before .before .before .before .before .before .before .before .before .point-due .ensures) _ (rw (c .before .before .before .before .before .before .before .before .before .before .before .before .before .before .before .before .before .before .before .stepped .ensures) at (c .before .before .before .before .before .before .before .before .before .before .before .before .before .before .before .before .push-due .ensures .same)) (c .before .before .before .before .before .before .before .before .before .before .before .before .push .given .1) (rw (c .before .before .before .before .before .before .before .before .before .before .counted .ensures, c .before .before .before .before .before .before .before .before .before .before .before .before .before .before .before .before .before .before .before .stepped .ensures) at (c .before .before .before .before .before .before .before .before .look-at .ensures)) (c .before .before .before .before .what .given .1) (c .before .before .put-down .ensures) (sym (c .before .state-ok .ensures) ∙ not-true (c .before .state-ok .result) (c .if1 .taken));
-      count = refl;
-      grown = rw (c .before .before .before .before .before .before .before .before .before .before .before .before .push .given .1, c .before .before .before .before .before .before .before .before .before .before .before .before .before .before .before .before .before .before .before .stepped .ensures) at (c .before .before .before .before .before .before .before .before .before .before .before .before .before .before .before .before .push-due .ensures .kept);
-    })
-
-enum-known-rest : tie.Need-enum-known-rest
-enum-known-rest c = search needs
+enum-known-t4 : tie.Need-enum-known-t4
+enum-known-t4 c = search needs
 
 enum-told-3 : tie.Need-enum-told-3
 enum-told-3 c = search needs
 
+same-length-3 : tie.Need-same-length-3
+same-length-3 c = came-look (seen (c .before .before)) [] .points .long
+
+returns-3 : tie.Need-returns-3
+returns-3 c lc =
+    let t = c .before .before in
+    ended (state-bad _ (came-look (seen t) lc) (t .before .put-down .ensures) (t .test .ensures) (c .enum-told3 .given .1))
+
+enum-known-t5 : tie.Need-enum-known-t5
+enum-known-t5 c = search needs
+
+enum-told-4 : tie.Need-enum-told-4
+enum-told-4 c = search needs
+
 same-length-4 : tie.Need-same-length-4
-same-length-4 c = c .before .before .before .before .push-point .kept .0 ∙ c .before .before .before .before .before .before .before .before .before .before .before .before .before .before .before .before .before .before .before .before .before .before .before .before .before .push-due .kept .1 .0
+same-length-4 c =
+    let p = c .before .before .before .before in
+    p .push-point .kept .0 ∙ came-held p [] .points .long
 
 returns-4 : tie.Need-returns-4
-returns-4 c = rw (c .before .before .before .before .before .before .before .before .tested .ensures, c .before .before .before .before .before .before .before .before .before .before .before .before .before .before .before .looked .ensures, c .before .before .before .before .before .before .before .before .before .before .before .before .before .before .before .before .before .before .before .counted .ensures, c .before .before .before .before .before .before .before .before .before .before .before .before .before .before .before .before .before .before .before .before .before .before .before .before .before .before .before .before .stepped .ensures, rw (c .enum-told3 .given .1) at (c .before .before .before .before .push-point .ensures .kept))
-    (record {
-      same = λ k. state-good _ _ _ _ _ (c .before .before .before .before .before .before .before .before .before .before .before .before .before .before .before .before .before .before .before .before .before .before .before .before .before .before .before .before .before .before .step-on .ensures) (c .before .before .before .before .before .before .before .before .before .before .before .before .before .before .before .before .before .before .before .before .before .before .before .before .before .before .before .point-due .ensures) _ (rw (c .before .before .before .before .before .before .before .before .before .before .before .before .before .before .before .before .before .before .before .before .before .before .before .before .before .before .before .before .stepped .ensures) at (c .before .before .before .before .before .before .before .before .before .before .before .before .before .before .before .before .before .before .before .before .before .before .before .before .before .push-due .ensures .same)) (c .before .before .before .before .before .before .before .before .before .before .before .before .before .before .before .before .before .before .before .before .before .push .given .1) (rw (c .before .before .before .before .before .before .before .before .before .before .before .before .before .before .before .before .before .before .before .counted .ensures, c .before .before .before .before .before .before .before .before .before .before .before .before .before .before .before .before .before .before .before .before .before .before .before .before .before .before .before .before .stepped .ensures) at (c .before .before .before .before .before .before .before .before .before .before .before .before .before .before .before .before .before .look-at .ensures)) (c .before .before .before .before .before .before .before .before .before .before .before .before .before .what .given .1) (c .before .before .before .before .before .before .before .before .before .before .before .put-down .ensures) (sym (c .before .before .before .before .before .before .before .before .before .before .state-ok .ensures) ∙ not-false (c .before .before .before .before .before .before .before .before .before .before .state-ok .result) (c .before .before .before .before .before .before .before .before .before .if1 .left))
-          (rw (← c .before .before .before .before .before .before .before .held .ensures, c .before .before .before .before .before .before .if2 .taken) (point-full _ _ _ _ _ _ _ (rw (c .before .before .before .before .before .before .before .before .tested .ensures, c .before .before .before .before .before .before .before .before .before .before .before .before .before .before .before .looked .ensures, c .before .before .before .before .before .before .before .before .before .before .before .before .before .before .before .before .before .before .before .counted .ensures, c .before .before .before .before .before .before .before .before .before .before .before .before .before .before .before .before .before .before .before .before .before .before .before .before .before .push-due .kept .1 .0) at (c .before .before .before .before .push-point .ensures .same)) (c .enum-told3 .given .1)));
-      count = refl;
-      grown = rw (c .before .before .before .before .before .before .before .before .before .before .before .before .before .before .before .before .before .before .before .before .before .push .given .1, c .before .before .before .before .before .before .before .before .before .before .before .before .before .before .before .before .before .before .before .before .before .before .before .before .before .before .before .before .stepped .ensures) at (c .before .before .before .before .before .before .before .before .before .before .before .before .before .before .before .before .before .before .before .before .before .before .before .before .before .push-due .ensures .kept);
-    })
+returns-4 c lc =
+    let p = c .before .before .before .before in
+    ended (points-full _ _ _ (came-held p lc) (p .push-point .ensures) (c .enum-told4 .given .1))
 
 same-length-5 : tie.Need-same-length-5
-same-length-5 c = c .before .before .before .before .before .before .push-point .kept .0 ∙ c .before .before .before .before .before .before .before .before .before .before .before .before .before .before .before .before .before .before .before .before .before .before .before .before .before .before .before .push-due .kept .1 .0
+same-length-5 c =
+    let p = c .before .before .before .before .before in
+    p .push-point .kept .0 ∙ came-held p [] .points .long
 
 returns-5 : tie.Need-returns-5
-unfolding exec
-returns-5 c = rw (c .counted2 .ensures, c .before .before .before .before .before .before .before .before .before .before .tested .ensures, c .before .before .before .before .before .before .before .before .before .before .before .before .before .before .before .before .before .looked .ensures, c .before .before .before .before .before .before .before .before .before .before .before .before .before .before .before .before .before .before .before .before .before .counted .ensures, c .before .before .before .before .before .before .before .before .before .before .before .before .before .before .before .before .before .before .before .before .before .before .before .before .before .before .before .before .before .before .stepped .ensures)
-    (record {
-      same = λ k. state-good _ _ _ _ _ (c .before .before .before .before .before .before .before .before .before .before .before .before .before .before .before .before .before .before .before .before .before .before .before .before .before .before .before .before .before .before .before .before .step-on .ensures) (c .before .before .before .before .before .before .before .before .before .before .before .before .before .before .before .before .before .before .before .before .before .before .before .before .before .before .before .before .before .point-due .ensures) _ (rw (c .before .before .before .before .before .before .before .before .before .before .before .before .before .before .before .before .before .before .before .before .before .before .before .before .before .before .before .before .before .before .stepped .ensures) at (c .before .before .before .before .before .before .before .before .before .before .before .before .before .before .before .before .before .before .before .before .before .before .before .before .before .before .before .push-due .ensures .same)) (c .before .before .before .before .before .before .before .before .before .before .before .before .before .before .before .before .before .before .before .before .before .before .before .push .given .1) (rw (c .before .before .before .before .before .before .before .before .before .before .before .before .before .before .before .before .before .before .before .before .before .counted .ensures, c .before .before .before .before .before .before .before .before .before .before .before .before .before .before .before .before .before .before .before .before .before .before .before .before .before .before .before .before .before .before .stepped .ensures) at (c .before .before .before .before .before .before .before .before .before .before .before .before .before .before .before .before .before .before .before .look-at .ensures)) (c .before .before .before .before .before .before .before .before .before .before .before .before .before .before .before .what .given .1) (c .before .before .before .before .before .before .before .before .before .before .before .before .before .put-down .ensures) (sym (c .before .before .before .before .before .before .before .before .before .before .before .before .state-ok .ensures) ∙ not-false (c .before .before .before .before .before .before .before .before .before .before .before .before .state-ok .result) (c .before .before .before .before .before .before .before .before .before .before .before .if1 .left))
-          (rw (← c .before .before .before .before .before .before .before .before .before .held .ensures, c .before .before .before .before .before .before .before .before .if2 .taken) (point-put _ _ _ _ _ _ _ (rw (c .before .before .before .before .before .before .before .before .before .before .tested .ensures, c .before .before .before .before .before .before .before .before .before .before .before .before .before .before .before .before .before .looked .ensures, c .before .before .before .before .before .before .before .before .before .before .before .before .before .before .before .before .before .before .before .before .before .counted .ensures, c .before .before .before .before .before .before .before .before .before .before .before .before .before .before .before .before .before .before .before .before .before .before .before .before .before .before .before .push-due .kept .1 .0) at (c .before .before .before .before .before .before .push-point .ensures .same)) (c .before .before .rest .given .1) refl));
-      count = refl;
-      grown = grow (rw (c .before .before .before .before .before .before .before .before .before .before .before .before .before .before .before .before .before .before .before .before .before .before .before .push .given .1, c .before .before .before .before .before .before .before .before .before .before .before .before .before .before .before .before .before .before .before .before .before .before .before .before .before .before .before .before .before .before .stepped .ensures) at (c .before .before .before .before .before .before .before .before .before .before .before .before .before .before .before .before .before .before .before .before .before .before .before .before .before .before .before .push-due .ensures .kept)) (pushed-grown _ _ _ _ _ (rw (c .before .before .rest .given .1, c .before .before .before .before .before .before .before .before .before .before .tested .ensures, c .before .before .before .before .before .before .before .before .before .before .before .before .before .before .before .before .before .looked .ensures, c .before .before .before .before .before .before .before .before .before .before .before .before .before .before .before .before .before .before .before .before .before .counted .ensures) at (c .before .before .before .before .before .before .push-point .ensures .kept)));
-    })
+returns-5 c lc =
+    let p = c .before .before .before .before .before in
+    ended (point-pushed _ _ _ (came-held p lc) (p .push-point .ensures) (c .before .t5 .given .1))
 
 same-length-6 : tie.Need-same-length-6
-same-length-6 c = c .before .before .before .before .before .before .before .before .before .before .before .before .before .before .before .before .before .before .before .before .before .push-due .kept .1 .0
+same-length-6 c = came-test (good (c .before .before .before)) [] .points .long
 
 returns-6 : tie.Need-returns-6
-unfolding exec
-returns-6 c = rw (c .before .next-after .ensures, c .last-of .ensures, c .before .before .before .before .tested .ensures, c .before .before .before .before .before .before .before .before .before .before .before .looked .ensures, c .before .before .before .before .before .before .before .before .before .before .before .before .before .before .before .counted .ensures, c .before .before .before .before .before .before .before .before .before .before .before .before .before .before .before .before .before .before .before .before .before .before .before .before .stepped .ensures)
-    (record {
-      same = λ k. state-good _ _ _ _ _ (c .before .before .before .before .before .before .before .before .before .before .before .before .before .before .before .before .before .before .before .before .before .before .before .before .before .before .step-on .ensures) (c .before .before .before .before .before .before .before .before .before .before .before .before .before .before .before .before .before .before .before .before .before .before .before .point-due .ensures) _ (rw (c .before .before .before .before .before .before .before .before .before .before .before .before .before .before .before .before .before .before .before .before .before .before .before .before .stepped .ensures) at (c .before .before .before .before .before .before .before .before .before .before .before .before .before .before .before .before .before .before .before .before .before .push-due .ensures .same)) (c .before .before .before .before .before .before .before .before .before .before .before .before .before .before .before .before .before .push .given .1) (rw (c .before .before .before .before .before .before .before .before .before .before .before .before .before .before .before .counted .ensures, c .before .before .before .before .before .before .before .before .before .before .before .before .before .before .before .before .before .before .before .before .before .before .before .before .stepped .ensures) at (c .before .before .before .before .before .before .before .before .before .before .before .before .before .look-at .ensures)) (c .before .before .before .before .before .before .before .before .before .what .given .1) (c .before .before .before .before .before .before .before .put-down .ensures) (sym (c .before .before .before .before .before .before .state-ok .ensures) ∙ not-false (c .before .before .before .before .before .before .state-ok .result) (c .before .before .before .before .before .if1 .left))
-          (rw (← c .before .before .before .held .ensures, c .before .before .if2 .left));
-      count = refl;
-      grown = rw (c .before .before .before .before .before .before .before .before .before .before .before .before .before .before .before .before .before .push .given .1, c .before .before .before .before .before .before .before .before .before .before .before .before .before .before .before .before .before .before .before .before .before .before .before .before .stepped .ensures) at (c .before .before .before .before .before .before .before .before .before .before .before .before .before .before .before .before .before .before .before .before .before .push-due .ensures .kept);
-    })
+returns-6 c lc =
+    let h = c .before .before .before in
+    rw (c .before .next-after .ensures, c .last-of .ensures)
+    (ended (not-left _ _ _ (came-test (good h) lc) (h .held .ensures) (c .before .before .if1 .left)))
 
 pub ground-step-spec : {M : Type 1} → statement M
 ground-step-spec =
     tie.close
     (tie.spec
     (λ c κs. tt)
-    stepped-requires
+    count-step-requires
     (λ c κs. tt)
     (λ c κs. tt)
-    enum-known-push
+    enum-known-t2
     enum-told
     same-length
     returns
-    (λ c κs. tt)
-    look-at-requires
-    (λ c κs. tt)
-    enum-known-what
+    look-requires
+    enum-known-under
     enum-told-2
     same-length-2
     returns-2
     (λ c κs. tt)
     (λ c κs. tt)
+    enum-known-t4
+    enum-told-3
     same-length-3
     returns-3
     (λ c κs. tt)
     (λ c κs. tt)
-    (λ c κs. tt)
-    enum-known-rest
-    enum-told-3
+    enum-known-t5
+    enum-told-4
     same-length-4
     returns-4
-    (λ c κs. tt)
     same-length-5
     returns-5
     (λ c κs. tt)

@@ -1,26 +1,93 @@
 -- A rebound: flown and kept, or not flown or discarded.
-use Prim.Native.Nat.{_*_, _≤_}
+use Prim.Native.Nat.{_-_, _*_, _≤_}
 use native.Mathlib.Nat.{le-refl}
 use native.Mathlib.Omega.{arith}
 use borrow.Author.Needs.{needs}
-use borrow.Author.Tests.{not-true, not-false}
-use mathlib.Core.Path.{refl, ap, _∙_}
+use mathlib.Core.Path.{refl, _∙_}
+use mathlib.Core.List.{List, []}
+use lib.Ieee.{Float}
 use lib.ListN.{length}
-use Rattle.look.specs.Tree.{exec}
-use Rattle.records.proofs.Laws.{recs-length, recs-zeroed, clean-zeroed}
-use Rattle.tally.specs.Lists.{stay, grow, pushed-grown}
-use Rattle.tally.specs.Words.{went, halted, marked, truncated, point-put, point-full}
-use Rattle.hop.specs.Contracts.{flewBy}
+use Rattle.state.specs.declared.BallState.{BallState}
+use Rattle.course.specs.Sheet.{courseOf}
+use Rattle.tally.specs.Language.{M}
+use Rattle.tally.specs.Contracts.{place, Reached}
+use Rattle.tally.specs.declared.Conditions.{Conditions}
+use Rattle.tally.specs.declared.Tally.{Tally}
+use Rattle.tally.proofs.Reached.{begun, ended, on, came, if-taken, point-pushed, points-full, point-fits, truncated}
+use Rattle.hop.specs.declared.Way.{Way}
+use Rattle.hop.proofs.Ways.{flew, hop-ended, hop-due}
 use Rattle.strike.specs.Strike.{fly}
+use Rattle.strike.specs.declared.Struck.{Struck}
+use Rattle.strike.specs.declared.Flown.{Flown}
+use Rattle.strike.proofs.Rebound.{toGround, toWay, toHop, toPush, flying, way-late, hop-kept, hop-discarded}
 use Rattle.strike.proofs.fly.Statement.{statement}
 use Rattle.strike.proofs.fly.Tie as tie
 
-returns : tie.Need-returns
-unfolding exec fly
-returns c = rw (not-true (c .before .before .before .before .args .hops) (c .if1 .taken)) (record { same = λ k. refl; grown = stay _ _ _ })
+-- ---- the places on the way, each from a later one
 
-enum-known-push : tie.Need-enum-known-push
-enum-known-push c = search needs
+abbrev out : tie.After-push-point → tie.After-out
+out c = c .before .before
+
+abbrev start : tie.After-push-point → tie.Start
+start c = out c .before .before .before .before .before
+
+abbrev push : tie.After-t1 → tie.After-push-point
+push c = c .before .before .before .before
+
+abbrev pushed : tie.After-hop → tie.After-t1
+pushed c = c .before .before .before .before
+
+abbrev hop : tie.After-flight3 → tie.After-hop
+hop c = c .before .before .before .before
+
+abbrev kept-way : tie.After-truncate → tie.After-way
+kept-way c = c .before .before .before .before .before
+
+-- ---- what is known there
+
+-- the rebound has come to a tally t and points l, and `rest` is left of it, whatever the contacts are
+abbrev Came : tie.After-push-point → (Conditions → BallState → Struck → Tally → M Flown) → Tally → List Float → Type 0
+Came c rest t l =
+    let a = start c .args in
+    (lc : List Float) → let p = place (a .t) lc (a .points .now) in
+    Reached (courseOf (a .sheet .now)) (fly (a .c) (a .hops) (a .state) (a .hit)) p (t .steps - a .t .steps) (rest (a .c) (a .state) (a .hit) (a .t)) (place t lc l)
+
+came-push : (c : tie.After-push-point) → Came c (λ c state hit t. toPush c state hit (t .points)) (start c .args .t) (start c .args .points .now)
+came-push c lc = came (flying _ _ _ _ (out c .before .if1 .left))
+
+came-hop : (c : tie.After-t1) → Came (push c) (λ c state hit t. toHop c state hit (t .points)) (c .t1 .given .0 .0) (push c .push-point .last .0)
+came-hop c lc = came (point-pushed _ _ _ (came-push (push c) lc) (push c .push-point .ensures) (c .t1 .given .1))
+
+abbrev hop-points : tie.After-hop → List Float
+hop-points c = c .hop .last .1 .1 .0
+
+came-way : (c : tie.After-flight3) → let q = pushed (hop c) in
+    Came (push q) (λ e state hit t. toWay e state hit (t .points) (c .flight3 .given .0 .0)) (c .flight3 .given .0 .1 .0) (hop-points (hop c))
+came-way c lc =
+    let h = hop c in
+    came (flew _ _ _ (came-hop (pushed h) lc) (h .before .flight-of .ensures) (h .hop .ensures) (c .flight3 .given .1))
+
+-- the mark's records fit in the list, before the hop and after it
+mark-fits : (c : tie.After-hop) → start (push (pushed c)) .args .t .points * 11 ≤ length (hop-points c)
+mark-fits c =
+    let q = pushed c in
+    let f = point-fits (courseOf (start (push q) .args .sheet .now)) _ _ (push q .push-point .ensures) (q .t1 .given .1) in
+    omega (arith, f .0, f .1, c .hop .kept .1 .1 .0, push q .push-point .kept .0)
+
+came-discard : (c : tie.After-truncate) → let f = kept-way c .before .before .before in
+    Came (push (pushed (hop f))) (λ e state hit t. toGround e state hit (t .points)) (f .flight3 .given .0 .1 .0) (hop-points (hop f))
+came-discard c lc =
+    let w = kept-way c in
+    hop-discarded _ _ _ _ _ (came-way (w .before .before .before) lc) (w .way .given .1) (c .before .before .before .dies-out .ensures) (c .before .before .if2 .left)
+
+-- ---- the answers
+
+returns : tie.Need-returns
+unfolding fly
+returns c lc = on (ended (if-taken _ _ _ begun refl (c .if1 .taken)))
+
+enum-known-t1 : tie.Need-enum-known-t1
+enum-known-t1 c = search needs
 
 enum-told : tie.Need-enum-told
 enum-told c = search needs
@@ -29,18 +96,21 @@ same-length : tie.Need-same-length
 same-length c = c .before .before .before .before .push-point .kept .0
 
 returns-2 : tie.Need-returns-2
-unfolding fly
-returns-2 c = rw (rw (c .enum-told .given .1) at (c .before .before .before .before .push-point .ensures .kept))
-    (record { same = λ k. rw (not-false (c .before .before .before .before .before .before .before .before .before .before .before .args .hops) (c .before .before .before .before .before .before .before .if1 .left)) (marked _ _ _ _ refl (point-full _ _ _ _ _ _ _ (c .before .before .before .before .push-point .ensures .same) (c .enum-told .given .1))); grown = stay _ _ _ })
+returns-2 c lc =
+    let p = c .before .before .before .before in
+    on (ended (points-full _ _ _ (came-push p lc) (p .push-point .ensures) (c .enum-told .given .1)))
 
 hop-requires : tie.Need-hop-requires
-hop-requires c κs = c .before .before .before .before .before .before .before .before .before .before .before .before .before .before .pre
+hop-requires c κs = start (push (c .before .before .before)) .pre
 
-enum-known-end : tie.Need-enum-known-end
-enum-known-end c = search needs
+enum-known-flight : tie.Need-enum-known-flight
+enum-known-flight c = search needs
 
-enum-known-end-2 : tie.Need-enum-known-end-2
-enum-known-end-2 c = search needs
+enum-known-flight-2 : tie.Need-enum-known-flight-2
+enum-known-flight-2 c = search needs
+
+enum-known-flight-3 : tie.Need-enum-known-flight-3
+enum-known-flight-3 c = search needs
 
 enum-told-2 : tie.Need-enum-told-2
 enum-told-2 c = search needs
@@ -48,55 +118,53 @@ enum-told-2 c = search needs
 enum-known-way : tie.Need-enum-known-way
 enum-known-way c = search needs
 
-mul-zero-from : tie.Need-mul-zero-from
-mul-zero-from c = let k = (rw (c .before .before .before .before .before .before .before .before .before .before .before .before .before .before .before .before .push .given .1) at (c .before .before .before .before .before .before .before .before .before .before .before .before .before .before .before .before .before .before .before .before .push-point .ensures .kept)) in omega (arith, k .0, k .1, c .before .before .before .before .before .before .before .before .before .before .before .before .before .before .before .before .before .before .before .before .before .before .before .before .before .before .before .good)
+truncate-requires : tie.Need-truncate-requires
+truncate-requires c κs = mark-fits (hop (c .before .before .before .before .before .before .before))
 
 same-length-2 : tie.Need-same-length-2
-same-length-2 c = c .before .before .before .before .before .before .hop .kept .1 .1 .0 ∙ c .before .before .before .before .before .before .before .before .before .before .before .before .before .before .push-point .kept .0
+same-length-2 c =
+    let h = c .before .before .before .before .before in
+    h .hop .kept .1 .1 .0 ∙ push (pushed h) .push-point .kept .0
 
 returns-3 : tie.Need-returns-3
-unfolding fly
-returns-3 c = record {
-  same = λ k. rw (not-false (c .before .before .before .before .before .before .before .before .before .before .before .before .before .before .before .before .before .before .before .before .before .args .hops) (c .before .before .before .before .before .before .before .before .before .before .before .before .before .before .before .before .before .if1 .left)) (marked _ _ _ _ refl (point-put _ _ _ _ _ _ _ (c .before .before .before .before .before .before .before .before .before .before .before .before .before .before .push-point .ensures .same) (c .before .before .before .before .before .before .before .before .before .before .push .given .1) (halted _ _ _ _ _ (rw (c .before .before .before .before .before .before .before .counted .ensures, c .before .before .before .before .before .before .before .before .before .before .before .before .before .before .push-point .kept .0) at (c .before .before .before .before .before .before .hop .ensures .same k)) (ap flewBy (c .before .end .given .1)))));
-  grown = grow (pushed-grown _ _ _ _ _ (rw (c .before .before .before .before .before .before .before .before .before .before .push .given .1) at (c .before .before .before .before .before .before .before .before .before .before .before .before .before .before .push-point .ensures .kept))) (rw (c .before .before .before .before .before .before .before .counted .ensures) at (c .before .before .before .before .before .before .hop .ensures .grown));
-}
+returns-3 c lc =
+    let h = c .before .before .before .before .before in
+    on (ended (hop-ended _ _ _ (came-hop (pushed h) lc) (h .before .flight-of .ensures) (h .hop .ensures) (c .before .flight .given .1)))
 
 same-length-3 : tie.Need-same-length-3
-same-length-3 c = c .before .before .before .before .before .before .before .before .hop .kept .1 .1 .0 ∙ c .before .before .before .before .before .before .before .before .before .before .before .before .before .before .before .before .push-point .kept .0
+same-length-3 c =
+    let h = c .before .before .before .before .before in
+    h .hop .kept .1 .1 .0 ∙ push (pushed h) .push-point .kept .0
 
 returns-4 : tie.Need-returns-4
-unfolding exec fly
-returns-4 c = record {
-  same = λ k. rw (not-false (c .before .before .before .before .before .before .before .before .before .before .before .before .before .before .before .before .before .before .before .before .before .before .before .args .hops) (c .before .before .before .before .before .before .before .before .before .before .before .before .before .before .before .before .before .before .before .if1 .left)) (marked _ _ _ _ refl (point-put _ _ _ _ _ _ _ (c .before .before .before .before .before .before .before .before .before .before .before .before .before .before .before .before .push-point .ensures .same) (c .before .before .before .before .before .before .before .before .before .before .before .before .push .given .1) (went _ _ _ _ _ (rw (c .before .before .before .before .before .before .before .before .before .counted .ensures, c .before .before .before .before .before .before .before .before .before .before .before .before .before .before .before .before .push-point .kept .0) at (c .before .before .before .before .before .before .before .before .hop .ensures .same k)) (ap flewBy (c .before .before .before .end2 .given .1)) (rw (c .enum-told2 .given .1)))));
-  grown = grow (pushed-grown _ _ _ _ _ (rw (c .before .before .before .before .before .before .before .before .before .before .before .before .push .given .1) at (c .before .before .before .before .before .before .before .before .before .before .before .before .before .before .before .before .push-point .ensures .kept))) (rw (c .before .before .before .before .before .before .before .before .before .counted .ensures) at (c .before .before .before .before .before .before .before .before .hop .ensures .grown));
-}
+returns-4 c lc =
+    let h = c .before .before .before .before .before in
+    on (ended (hop-due _ _ _ (came-hop (pushed h) lc) (h .before .flight-of .ensures) (h .hop .ensures) (c .before .flight2 .given .1)))
 
 same-length-4 : tie.Need-same-length-4
-same-length-4 c = c .before .before .before .before .before .before .before .before .before .before .before .hop .kept .1 .1 .0 ∙ c .before .before .before .before .before .before .before .before .before .before .before .before .before .before .before .before .before .before .before .push-point .kept .0
+same-length-4 c = came-way (c .before .before .before) [] .points .long
 
 returns-5 : tie.Need-returns-5
-unfolding exec fly
-returns-5 c = record {
-  same = λ k. rw (not-false (c .before .before .before .before .before .before .before .before .before .before .before .before .before .before .before .before .before .before .before .before .before .before .before .before .before .before .args .hops) (c .before .before .before .before .before .before .before .before .before .before .before .before .before .before .before .before .before .before .before .before .before .before .if1 .left)) (marked _ _ _ _ refl (point-put _ _ _ _ _ _ _ (c .before .before .before .before .before .before .before .before .before .before .before .before .before .before .before .before .before .before .before .push-point .ensures .same) (c .before .before .before .before .before .before .before .before .before .before .before .before .before .before .before .push .given .1) (went _ _ _ _ _ (rw (c .before .before .before .before .before .before .before .before .before .before .before .before .counted .ensures, c .before .before .before .before .before .before .before .before .before .before .before .before .before .before .before .before .before .before .before .push-point .kept .0) at (c .before .before .before .before .before .before .before .before .before .before .before .hop .ensures .same k)) (ap flewBy (c .before .before .before .before .before .before .end2 .given .1)) (rw (c .before .before .before .way .given .1, ← c .before .dies-out .ensures, c .if2 .taken)))));
-  grown = grow (pushed-grown _ _ _ _ _ (rw (c .before .before .before .before .before .before .before .before .before .before .before .before .before .before .before .push .given .1) at (c .before .before .before .before .before .before .before .before .before .before .before .before .before .before .before .before .before .before .before .push-point .ensures .kept))) (rw (c .before .before .before .before .before .before .before .before .before .before .before .before .counted .ensures) at (c .before .before .before .before .before .before .before .before .before .before .before .hop .ensures .grown));
-}
+returns-5 c lc = on (ended (way-late _ _ _ _ _ (came-way (c .before .before .before) lc) (c .enum-told2 .given .1)))
 
 same-length-5 : tie.Need-same-length-5
-same-length-5 c = c .before .before .before .zero-from .kept .0 ∙ c .before .before .before .before .before .before .before .before .before .before .before .before .before .before .before .before .hop .kept .1 .1 .0 ∙ c .before .before .before .before .before .before .before .before .before .before .before .before .before .before .before .before .before .before .before .before .before .before .before .before .push-point .kept .0
+same-length-5 c = came-way (c .before .before .before .before .before .before) [] .points .long
 
 returns-6 : tie.Need-returns-6
-unfolding exec fly
-returns-6 c = let k = (rw (c .before .before .before .before .before .before .before .before .before .before .before .before .before .before .before .before .before .before .before .before .push .given .1) at (c .before .before .before .before .before .before .before .before .before .before .before .before .before .before .before .before .before .before .before .before .before .before .before .before .push-point .ensures .kept)) in
-    let g = (rw (c .before .before .before .before .before .before .before .before .before .before .before .before .before .before .before .before .before .counted .ensures) at (c .before .before .before .before .before .before .before .before .before .before .before .before .before .before .before .before .hop .ensures .grown)) in
-    let n = c .before .before .before .before .before .before .before .before .before .before .before .before .before .before .before .before .hop .kept .1 .1 .0 ∙ c .before .before .before .before .before .before .before .before .before .before .before .before .before .before .before .before .before .before .before .before .before .before .before .before .push-point .kept .0 in
-    let i : c .before .before .before .before .before .before .before .before .before .before .before .before .before .before .before .before .before .before .before .before .before .before .before .before .before .before .before .before .before .before .before .args .t .points ≤ c .before .before .before .before .before .before .before .before .before .before .before .before .before .before .before .before .hop .result .tally .points = omega (arith, k .0, g .more) in
-    let j : c .before .before .before .before .before .before .before .before .before .before .before .before .before .before .before .before .before .before .before .before .before .before .before .before .before .before .before .before .before .before .before .args .t .points * 11 ≤ length (c .before .before .before .before .before .before .before .before .before .before .before .before .before .before .before .before .hop .last .1 .1 .0) = rw n (omega (arith, k .0, k .1)) in
-    rw (c .counted2 .ensures, c .before .before .before .zero-from .ensures)
-    (record {
-      same = λ k. rw (not-false (c .before .before .before .before .before .before .before .before .before .before .before .before .before .before .before .before .before .before .before .before .before .before .before .before .before .before .before .before .before .before .before .args .hops) (c .before .before .before .before .before .before .before .before .before .before .before .before .before .before .before .before .before .before .before .before .before .before .before .before .before .before .before .if1 .left)) (marked _ _ _ _ refl (point-put _ _ _ _ _ _ _ (c .before .before .before .before .before .before .before .before .before .before .before .before .before .before .before .before .before .before .before .before .before .before .before .before .push-point .ensures .same) (c .before .before .before .before .before .before .before .before .before .before .before .before .before .before .before .before .before .before .before .before .push .given .1) (went _ _ _ _ _ (rw (c .before .before .before .before .before .before .before .before .before .before .before .before .before .before .before .before .before .counted .ensures, c .before .before .before .before .before .before .before .before .before .before .before .before .before .before .before .before .before .before .before .before .before .before .before .before .push-point .kept .0) at (c .before .before .before .before .before .before .before .before .before .before .before .before .before .before .before .before .hop .ensures .same k)) (ap flewBy (c .before .before .before .before .before .before .before .before .before .before .before .end2 .given .1))
-          (rw (c .before .before .before .before .before .before .before .before .way .given .1, ← c .before .before .before .before .before .before .dies-out .ensures, c .before .before .before .before .before .if2 .left) (truncated _ _ _ _ _ (rw (recs-length 11 (c .before .before .before .before .before .before .before .before .before .before .before .before .before .before .before .before .before .before .before .before .before .before .before .before .before .before .before .before .before .before .before .args .t .points) _, ← recs-zeroed 11 (c .before .before .before .before .before .before .before .before .before .before .before .before .before .before .before .before .before .before .before .before .before .before .before .before .before .before .before .before .before .before .before .args .t .points) _ _ i j)))))));
-      grown = record { more = le-refl _; clean = λ _. clean-zeroed 11 _ _ j };
-    })
+returns-6 c lc =
+    let w = c .before .before .before in
+    on (ended (hop-kept _ _ _ _ _ (came-way (w .before .before .before) lc) (w .way .given .1) (c .before .dies-out .ensures) (c .if2 .taken)))
+
+same-length-6 : tie.Need-same-length-6
+same-length-6 c =
+    let t = c .before .before in
+    t .truncate .kept .0 ∙ came-discard t [] .points .long
+
+returns-7 : tie.Need-returns-7
+returns-7 c lc =
+    let t = c .before .before in
+    let r = came-discard t lc in
+    on (ended (truncated _ _ r (t .truncate .ensures) (le-refl _) (r .points .more) (mark-fits (hop (kept-way t .before .before .before)))))
 
 pub fly-spec : {M : Type 1} → statement M
 fly-spec =
@@ -104,20 +172,19 @@ fly-spec =
     (tie.spec
     returns
     (λ c κs. tt)
-    enum-known-push
+    enum-known-t1
     enum-told
     same-length
     returns-2
     (λ c κs. tt)
     hop-requires
-    enum-known-end
-    enum-known-end-2
+    enum-known-flight
+    enum-known-flight-2
+    enum-known-flight-3
     enum-told-2
     enum-known-way
     (λ c κs. tt)
-    mul-zero-from
-    (λ c κs. tt)
-    (λ c κs. tt)
+    truncate-requires
     same-length-2
     returns-3
     same-length-3
@@ -125,4 +192,6 @@ fly-spec =
     same-length-4
     returns-5
     same-length-5
-    returns-6)
+    returns-6
+    same-length-6
+    returns-7)

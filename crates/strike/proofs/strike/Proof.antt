@@ -1,48 +1,47 @@
--- A look, an impact, and the state's test.
+-- An impact: a look and a test.
 use borrow.Author.Needs.{needs}
-use mathlib.Core.Path.{refl, _∙_, sym}
-use borrow.Author.Tests.{not-true, not-false}
-use Rattle.look.specs.Tree.{exec}
-use Rattle.tally.specs.Lists.{stay}
-use Rattle.tally.specs.Words.{look-saw, look-off, test-ok, test-bad}
+use Rattle.tally.proofs.Reached.{begun, ended, spot-seen, spot-off, state-good, state-bad}
 use Rattle.strike.specs.Strike.{strike}
 use Rattle.strike.proofs.strike.Statement.{statement}
 use Rattle.strike.proofs.strike.Tie as tie
 
-look-at-requires : tie.Need-look-at-requires
-look-at-requires c κs = c .before .before .before .pre
+look-requires : tie.Need-look-requires
+look-requires c κs =
+    let at-start = c .before .before .before in
+    at-start .pre
 
-enum-known-what : tie.Need-enum-known-what
-enum-known-what c = search needs
+enum-known-at : tie.Need-enum-known-at
+enum-known-at c = search needs
 
 enum-told : tie.Need-enum-told
 enum-told c = search needs
 
 returns : tie.Need-returns
 unfolding strike
-returns c = rw (c .before .before .looked .ensures) (λ l. record { same = λ k. look-off _ _ _ _ _ _ (c .before .before .before .before .look-at .ensures) (c .enum-told .given .1); grown = stay _ _ _ })
+returns c lc lp = ended (spot-off _ _ _ begun (c .before .before .look .ensures) (c .enum-told .given .1))
+
+enum-known-t2 : tie.Need-enum-known-t2
+enum-known-t2 c = search needs
+
+enum-told-2 : tie.Need-enum-told-2
+enum-told-2 c = search needs
 
 returns-2 : tie.Need-returns-2
 unfolding strike
-returns-2 c = rw (c .before .before .before .before .before .before .before .looked .ensures)
-    (λ l. record { same = λ k. look-saw _ _ _ _ _ _ (c .before .before .before .before .before .before .before .before .before .look-at .ensures) (c .before .before .before .before .before .what .given .1) (test-bad _ _ _ _ (c .before .before .impact .ensures) (sym (c .before .state-ok .ensures) ∙ not-true (c .before .state-ok .result) (c .if1 .taken))); grown = stay _ _ _ })
+returns-2 c lc lp =
+    let at-impact = c .before .before .before in
+    let at-at = at-impact .before .before .before in
+    ended (state-bad _ (spot-seen _ _ _ begun (at-at .before .before .look .ensures) (at-at .at .given .1)) (at-impact .impact .ensures)
+        (c .before .before .test .ensures) (c .enum-told2 .given .1))
 
 returns-3 : tie.Need-returns-3
-unfolding strike exec
-returns-3 c = rw (c .tested .ensures, c .before .before .before .before .before .before .before .before .looked .ensures)
-    (λ l. record { same = λ k. look-saw _ _ _ _ _ _ (c .before .before .before .before .before .before .before .before .before .before .look-at .ensures) (c .before .before .before .before .before .before .what .given .1) (test-ok _ _ _ _ (c .before .before .before .impact .ensures) (sym (c .before .before .state-ok .ensures) ∙ not-false (c .before .before .state-ok .result) (c .before .if1 .left)) refl); grown = stay _ _ _ })
+unfolding strike
+returns-3 c lc lp =
+    let at-test = c .before .before .before in
+    let at-at = at-test .before .before .before .before in
+    ended (state-good _ (spot-seen _ _ _ begun (at-at .before .before .look .ensures) (at-at .at .given .1)) (at-test .before .impact .ensures)
+        (at-test .test .ensures) (c .before .t2 .given .1))
 
 pub strike-spec : {M : Type 1} → statement M
-strike-spec =
-    tie.close
-    (tie.spec
-    look-at-requires
-    (λ c κs. tt)
-    enum-known-what
-    enum-told
-    returns
-    (λ c κs. tt)
-    (λ c κs. tt)
-    returns-2
-    (λ c κs. tt)
-    returns-3)
+strike-spec = tie.close (tie.spec look-requires enum-known-at enum-told returns (λ c κs. tt)
+    (λ c κs. tt) enum-known-t2 enum-told-2 returns-2 returns-3)

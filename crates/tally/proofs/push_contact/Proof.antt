@@ -1,21 +1,26 @@
--- A contact is pushed as its twenty doubles.
+-- A push of a contact.
 use borrow.Author.Needs.{needs}
+use Rattle.tally.proofs.Word.{contact-pushed, no-contact}
 use Rattle.tally.proofs.push_contact.Statement.{statement}
 use Rattle.tally.proofs.push_contact.Tie as tie
 
-slice-aggregate-push : tie.Need-slice-aggregate-push
-slice-aggregate-push c = search needs
+enum-told : tie.Need-enum-told
+enum-told c = search needs
 
-push-requires : tie.Need-push-requires
-push-requires c κs = search needs
+enum-known-pushed : tie.Need-enum-known-pushed
+enum-known-pushed c = search needs
 
 same-length : tie.Need-same-length
 same-length c = search needs
 
 returns : tie.Need-returns
-returns c = rw (c .before .before .before .before .before .before .before .before .before .nearest-u64-to-f64 .ensures) at (c .before .before .push .ensures)
+returns c = no-contact _ _ _ (c .before .before .before .before .write-contact .ensures) (c .enum-told .given .1)
+
+same-length-2 : tie.Need-same-length-2
+same-length-2 c = search needs
+
+returns-2 : tie.Need-returns-2
+returns-2 c = contact-pushed _ _ _ (c .before .before .before .before .before .before .write-contact .ensures) (c .before .before .before .before .before .before .write-contact .kept .0) (c .before .before .pushed .given .1) (c .with-contacts .ensures)
 
 pub push-contact-spec : {M : Type 1} → statement M
-push-contact-spec =
-    tie.close
-    (tie.spec (λ c κs. tt) slice-aggregate-push push-requires same-length returns)
+push-contact-spec = tie.close (tie.spec (λ c κs. tt) enum-told enum-known-pushed (λ c κs. tt) same-length returns same-length-2 returns-2)

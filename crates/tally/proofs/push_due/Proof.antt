@@ -1,6 +1,7 @@
 -- A point is pushed if it is due.
-use Rattle.tally.specs.Lists.{due-true, due-false}
 use borrow.Author.Needs.{needs}
+use Rattle.tally.specs.Language.{when}
+use Rattle.tally.proofs.Word.{not-due}
 use Rattle.tally.proofs.push_due.Statement.{statement}
 use Rattle.tally.proofs.push_due.Tie as tie
 
@@ -8,10 +9,11 @@ same-length : tie.Need-same-length
 same-length c = search needs
 
 returns : tie.Need-returns
-returns c = rw (c .before .before .before .before .if1 .taken) (due-true _ _ _ _ _ (c .before .before .push-point .ensures))
+unfolding when
+returns c = rw (c .before .before .before .before .if1 .taken) (c .before .before .push-point .ensures)
 
 returns-2 : tie.Need-returns-2
-returns-2 c = rw (c .if1 .left) (due-false _ _ _)
+returns-2 c = rw (c .if1 .left) (not-due _ _ _ _)
 
 pub push-due-spec : {M : Type 1} → statement M
 push-due-spec = tie.close (tie.spec (λ c κs. tt) same-length returns returns-2)

@@ -1,0 +1,26 @@
+-- One look, and y less the height, from tally to tally.
+use borrow.Author.Needs.{needs}
+use Rattle.tally.proofs.Reached.{begun, ended, spot-seen, spot-off}
+use Rattle.arrival.specs.Arrival.{clearance}
+use Rattle.arrival.proofs.clear.Statement.{statement}
+use Rattle.arrival.proofs.clear.Tie as tie
+
+look-requires : tie.Need-look-requires
+look-requires c κs = search needs
+
+enum-known-s : tie.Need-enum-known-s
+enum-known-s c = search needs
+
+enum-told : tie.Need-enum-told
+enum-told c = search needs
+
+returns : tie.Need-returns
+unfolding clearance
+returns c lc lp = ended (spot-off _ _ _ begun (c .before .before .look .ensures) (c .enum-told .given .1))
+
+returns-2 : tie.Need-returns-2
+unfolding clearance
+returns-2 c lc lp = ended (spot-seen _ _ _ begun (c .before .before .before .before .before .look .ensures) (c .before .before .before .s .given .1))
+
+pub clear-spec : {M : Type 1} → statement M
+clear-spec = tie.close (tie.spec look-requires enum-known-s enum-told returns returns-2)
