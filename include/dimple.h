@@ -1,6 +1,6 @@
 /* The doors of the crate capi, for C, Rust and Python. Link libcapi.a (rt staticlib capi, x86-64 Linux) or target/libdimple.so,
- * which `make` builds of it. Lengths count doubles, or bytes for a sheet and an input. Buffers must not overlap. No door keeps a pointer.
- * Answers: 0, or a number of document 01 (README.md has the table). 100 and up are the doors' own. */
+ * which `make` builds of it. Lengths count doubles, or bytes for a sheet, an input and a name. Buffers must not overlap. No door keeps a pointer.
+ * Answers: 0, or a number of document 01 or 02 (README.md has the table). 100 and up are the doors' own. */
 #ifndef DIMPLE_H
 #define DIMPLE_H
 
@@ -49,6 +49,25 @@ uint32_t dimple_board_enter(double *board, size_t board_len, uint32_t shot, uint
 
 /* The shot number at a place, from 0, into shot (1). 26: past the last entry, with shot number 0. */
 uint32_t dimple_board_place(const double *board, size_t board_len, uint64_t place, double *shot, size_t shot_len);
+
+/* A shelf, 368 doubles that the caller keeps: 16 places of 23, each a name's length (0: a free place), 12 doubles for its bytes (those past its length
+ * +0), then a state (10: time, pos, vel, spin). The doors alone write it. name: 1 to 12 bytes, each A to Z; its length counts bytes.
+ * 100: a length is not the one named. 101: the doubles are no shelf (a length is no whole number from 0 to 12, a byte within it no whole number from 65
+ * to 90 or one past it not 0, a kept state fails 22, a name is kept twice; what the state of a free place holds is not tested). On 100 and 101 nothing is
+ * touched. Tested in the order 100, 101, 32, 22, 33 or 34. On a number the shelf is unchanged. */
+
+/* An empty shelf. */
+uint32_t dimple_shelf_new(double *shelf, size_t shelf_len);
+
+/* Keeps the state (10) under the name, in place of one kept there before. 32: bad name. 22: a number of the state is not finite or is beyond 1,000,000.
+ * 33: a new name with 16 kept. */
+uint32_t dimple_shelf_save(double *shelf, size_t shelf_len, const uint8_t *name, size_t name_len, const double *state, size_t state_len);
+
+/* The state last saved under the name and not dropped since into state (10). 32: bad name. 34: no such name. With 32 and 34 the state is ten +0. */
+uint32_t dimple_shelf_return(const double *shelf, size_t shelf_len, const uint8_t *name, size_t name_len, double *state, size_t state_len);
+
+/* Drops the name; its place is free again. 32: bad name. 34: no such name. */
+uint32_t dimple_shelf_drop(double *shelf, size_t shelf_len, const uint8_t *name, size_t name_len);
 
 #ifdef __cplusplus
 }

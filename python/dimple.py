@@ -3,8 +3,9 @@
     course = Course([GREEN])
     run = settle(course, Landing(vel=(6.0, -4.0, 0.0)))
     board = Board(pin=(3.0, 0.0)); board.enter(1, run)
+    shelf = Shelf(); shelf.save("LIE", run.rest); shelf.return_to("LIE")
 
-A number of document 01 other than 0 is raised as `Refused`, which says in words what is wrong; a run that was stopped (20 to 23) is raised
+A number of documents 01 and 02 other than 0 is raised as `Refused`, which says in words what is wrong; a run that was stopped (20 to 23) is raised
 as `Stopped`, with what it had got to in its `run`. What cannot be handed to the library at all is a plain `ValueError` (`Refused` is one
 too): an unknown kind or law, a surface number, max_impacts, step_limit or shot number that is no whole number in the range of its type, a
 field that is no number, and a run to enter whose answer is not 0.
@@ -37,8 +38,11 @@ WORDS = {
     24: "the board holds 256 entries",
     25: "the shot number is on the board already",
     26: "there is no entry at that place",
+    32: "a name is 1 to 12 letters from A to Z",
+    33: "the shelf holds 16 names",
+    34: "there is no such name on the shelf",
     100: "a buffer has the wrong length",
-    101: "the buffer holds no board",
+    101: "the buffer holds no board, or no shelf",
     102: "the termination is none of rest, time and impacts",
 }
 
@@ -123,7 +127,11 @@ def _library():
     lib.dimple_board_new.argtypes = [ctypes.c_double, ctypes.c_double, doubles, size]
     lib.dimple_board_enter.argtypes = [doubles, size, ctypes.c_uint32, ctypes.c_uint32, ctypes.c_double, ctypes.c_double]
     lib.dimple_board_place.argtypes = [doubles, size, ctypes.c_uint64, doubles, size]
-    for door in ("settle", "step", "impact", "height", "board_new", "board_enter", "board_place"):
+    lib.dimple_shelf_new.argtypes = [doubles, size]
+    lib.dimple_shelf_save.argtypes = [doubles, size, ctypes.c_char_p, size, doubles, size]
+    lib.dimple_shelf_return.argtypes = [doubles, size, ctypes.c_char_p, size, doubles, size]
+    lib.dimple_shelf_drop.argtypes = [doubles, size, ctypes.c_char_p, size]
+    for door in ("settle", "step", "impact", "height", "board_new", "board_enter", "board_place", "shelf_new", "shelf_save", "shelf_return", "shelf_drop"):
         getattr(lib, f"dimple_{door}").restype = ctypes.c_uint32
     return lib
 
@@ -253,3 +261,44 @@ class Board:
 
     def listing(self):
         return [self.place(i) for i in range(len(self))]
+
+
+def _accept(answer):
+    if answer:
+        raise Refused(answer)
+
+
+class Shelf:
+    """Up to 16 states, each kept under a name of 1 to 12 letters from A to Z."""
+
+    def __init__(self):
+        self._buffer = _doubles(368)
+        _accept(_call("dimple_shelf_new", self._buffer, 368))
+
+    @staticmethod
+    def _name(name):
+        """The name's bytes; one that is no text in ASCII is refused as any other bad name."""
+        if not isinstance(name, str):
+            raise ValueError(f"the name {name!r} is no text")
+        return name.encode("ascii", "replace")
+
+    def save(self, name, state):
+        """Keeps the state under the name, in place of one kept there before."""
+        n, s = self._name(name), _doubles(10, state.time, *state.pos, *state.vel, *state.spin)
+        _accept(_call("dimple_shelf_save", self._buffer, 368, n, len(n), s, 10))
+
+    def return_to(self, name):
+        """The state last saved under the name and not dropped since."""
+        n, s = self._name(name), _doubles(10)
+        _accept(_call("dimple_shelf_return", self._buffer, 368, n, len(n), s, 10))
+        return _state(s[:10])
+
+    def drop(self, name):
+        """The name no more; its place is free again."""
+        n = self._name(name)
+        _accept(_call("dimple_shelf_drop", self._buffer, 368, n, len(n)))
+
+    def names(self):
+        """The names kept, in the order of the alphabet."""
+        places = [list(self._buffer[i:i + 13]) for i in range(0, 368, 23)]
+        return sorted("".join(chr(int(b)) for b in p[1:1 + int(p[0])]) for p in places if p[0])

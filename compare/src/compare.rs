@@ -5,6 +5,7 @@ mod faults;
 #[cfg(all(has_guess_root, has_guess_look))]
 mod guesses;
 mod leaves;
+mod shelf;
 mod shots;
 mod speed;
 mod unpatched;
@@ -426,13 +427,14 @@ fn main() {
         Some("doors") => doors_mode(seed, value("--cases", 200_000), n),
         Some("board") => board::run(seed, value("--calls", 500_000), n),
         Some("leaves") => leaves::run(seed, value("--share", 100), n, args.get(1).map_or("", |a| a.as_str())),
+        Some("shelf") => shelf::run(seed, value("--calls", 200_000), n),
         Some("replay") => replay_mode(args.get(1).map_or("../crates/replay/data/replay.bin", |a| a.as_str())),
         Some("speed") => speed::run(),
         Some("faults") => faults::run(),
         Some("unpatched") => unpatched::run(seed, value("--shots", 100_000), n),
         _ => {
             println!(
-                "compare settle [--shots N] | doors [--cases N] | board [--calls N] | leaves [NAME] [--share PERCENT] | replay [FILE] | speed | faults | unpatched [--shots N]"
+                "compare settle [--shots N] | doors [--cases N] | board [--calls N] | leaves [NAME] [--share PERCENT] | shelf [--calls N] | replay [FILE] | speed | faults | unpatched [--shots N]"
             );
             println!("        [--seed N] [--threads N] [--first]");
             std::process::exit(2);

@@ -5,6 +5,7 @@ ghost use lib.ListN.{length};
 ghost use Rattle.capi.specs.Doors.{reported, stepped, struck, door, settleDoor, settleDoorOf, stepDoorOf, impactDoorOf, heightDoorOf};
 ghost use Rattle.layout.specs.Layout.{boardLength, boardAt};
 ghost use Rattle.capi.specs.Boards.{entered, sentOf, newDoorOf, enterDoorOf, placeDoorOf};
+ghost use Rattle.shelf_layout.specs.Doors.{answered, shelfNewDoorOf, shelfSaveDoorOf, shelfReturnDoorOf, shelfDropDoorOf};
 use board::Board;
 use board::Entered;
 use board::Entry;
@@ -259,4 +260,34 @@ pub extern "C" fn dimple_board_place(board: &[f64], place: u64, shot: &mut [f64]
         return p.answer;
     }
     101
+}
+
+// ---- the shelf, as 368 doubles: 16 places of a name's length, its 12 bytes and a state
+
+#[no_mangle]
+pub extern "C" fn dimple_shelf_new(shelf: &mut [f64]) -> u32
+    ensures { λ r. ⌜ answered r (now (shelf .exit)) ≡ shelfNewDoorOf (now (shelf .entry)) ⌝ }
+{
+    shelf_layout::new_in(shelf)
+}
+
+#[no_mangle]
+pub extern "C" fn dimple_shelf_save(shelf: &mut [f64], name: &[u8], state: &[f64]) -> u32
+    ensures { λ r. ⌜ answered r (now (shelf .exit)) ≡ shelfSaveDoorOf (now (shelf .entry)) (now (name .entry)) (now (state .entry)) ⌝ }
+{
+    shelf_layout::save_in(shelf, name, state)
+}
+
+#[no_mangle]
+pub extern "C" fn dimple_shelf_return(shelf: &[f64], name: &[u8], state: &mut [f64]) -> u32
+    ensures { λ r. ⌜ answered r (now (state .exit)) ≡ shelfReturnDoorOf (now (shelf .entry)) (now (name .entry)) (now (state .entry)) ⌝ }
+{
+    shelf_layout::return_in(shelf, name, state)
+}
+
+#[no_mangle]
+pub extern "C" fn dimple_shelf_drop(shelf: &mut [f64], name: &[u8]) -> u32
+    ensures { λ r. ⌜ answered r (now (shelf .exit)) ≡ shelfDropDoorOf (now (shelf .entry)) (now (name .entry)) ⌝ }
+{
+    shelf_layout::drop_in(shelf, name)
 }

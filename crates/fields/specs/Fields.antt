@@ -1,9 +1,12 @@
--- Structs in a list of doubles, field after field, and a list with a run of doubles written at a place.
+-- Definitions. Structs in a list of doubles, field after field, and a list with a run of doubles written at a place.
 use Prim.Native.Nat.{ℕ, _+_}
+use mathlib.Core.Bool.{Bool, _&&_, cond}
 use mathlib.Core.List.{List, [], _∷_, _++_}
+use lib.Dec.{leb}
 use lib.ListN.{length, take, drop, getD}
 use lib.IntN.{pos}
-use lib.Ieee.{Float, nan, ofInt, binary64}
+use lib.Ieee.{Float, nan, ofInt, binary64, neg, lt, eq, toUnsigned}
+use Rattle.number.specs.Ops.{dec}
 use Rattle.vector.specs.Vec.{vec}
 use Rattle.vector.specs.declared.DVec3.{DVec3}
 use Rattle.state.specs.declared.BallState.{BallState}
@@ -12,6 +15,15 @@ use Rattle.aero.specs.declared.BallModel.{BallModel}
 -- a whole number as a double
 abbrev pub wholeOf : ℕ → Float
 wholeOf n = ofInt binary64 (pos n)
+
+-- the whole part of a double, or 0 where that is no u32
+unfoldable pub natOf : Float → ℕ
+natOf x =
+    cond (lt (neg (dec 1 1)) x && lt x (dec 18446744073709551616 1)) (cond (leb (toUnsigned 64 x) 4294967295) (toUnsigned 64 x) 0) 0
+
+-- x is, by value, a whole number from 0 to n
+unfoldable pub isWhole : ℕ → Float → Bool
+isWhole n x = eq x (wholeOf (natOf x)) && leb (natOf x) n
 
 -- the double at an index
 abbrev pub doubleAt : List Float → ℕ → Float

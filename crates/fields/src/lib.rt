@@ -2,7 +2,7 @@
 ghost use mathlib.Core.Path.{_≡_};
 ghost use Prim.Native.Nat.{_+_, _≤_};
 ghost use lib.ListN.{length};
-ghost use Rattle.fields.specs.Fields.{wholeOf, vecAt, stateAt, ballAt, written};
+ghost use Rattle.fields.specs.Fields.{wholeOf, natOf, isWhole, stateFields, vecAt, stateAt, ballAt, written};
 use aero::BallModel;
 use state::BallState;
 use vector::DVec3;
@@ -12,6 +12,32 @@ pub fn whole(n: u64) -> f64
     ensures { λ r. ⌜ r ≡ wholeOf n ⌝ }
 {
     std::num::nearest_u64_to_f64(n)
+}
+
+// A double without its fraction, or 0 where that is no u32.
+pub fn nat_of(x: f64) -> u32
+    ensures { λ r. ⌜ r ≡ natOf x ⌝ }
+{
+    if x > -1.0 {
+        if x < 18446744073709551616.0 {
+            let n = std::num::truncating_f64_to_u64(x);
+            if n <= 4294967295 {
+                return n as u32;
+            }
+            return 0;
+        }
+        return 0;
+    }
+    0
+}
+
+// Whether x is a whole number from 0 to `most`.
+pub fn is_whole(x: f64, most: u32) -> bool
+    ensures { λ r. ⌜ r ≡ isWhole most x ⌝ }
+{
+    let n = nat_of(x);
+    let y = whole(n as u64);
+    (x == y) & (n <= most)
 }
 
 pub fn vec_at(s: &[f64], o: usize) -> DVec3
@@ -72,4 +98,27 @@ pub fn put(out: &mut [f64], at: usize, rec: &[f64])
         out[at + i] = rec[i];
         i += 1;
     }
+}
+
+// Writes the state from `at` on: time, pos, vel, spin.
+pub fn put_state(out: &mut [f64], at: usize, s: BallState)
+    requires { ⌜ at + 10 ≤ length (now out) ⌝ }
+    ensures { λ _. ⌜ now (out .exit) ≡ written (now (out .entry)) at (stateFields s) ⌝ }
+{
+    let pos = s.pos;
+    let vel = s.vel;
+    let spin = s.spin;
+    let rec = [
+        s.time,
+        pos.x,
+        pos.y,
+        pos.z,
+        vel.x,
+        vel.y,
+        vel.z,
+        spin.x,
+        spin.y,
+        spin.z,
+    ];
+    put(out, at, &rec);
 }

@@ -1,13 +1,12 @@
 -- `put` writes the record from an index on. The invariant: its first i doubles are written.
-use Prim.Native.Nat.{ℕ, _+_, _-_, _≤_, _<_, zero-le}
+use Prim.Native.Nat.{_+_, _-_, _≤_, _<_, zero-le}
 use native.Mathlib.Omega.{arith}
 use native.Mathlib.Numerals.{add-one}
 use mathlib.Core.Path.{_≡_, refl, ap, _∙_}
-use mathlib.Core.List.{List, append-assoc}
-use lib.ListN.{length, take, drop, length-set}
-use lib.Seq.{paste, paste-zero, paste-suc, take-length}
-use lib.Ieee.{Float, nan}
-use Rattle.fields.specs.Fields.{written}
+use lib.ListN.{length, length-set}
+use lib.Seq.{paste, paste-zero, paste-suc}
+use lib.Ieee.{nan}
+use Rattle.fields.proofs.Written.{pasted}
 use Rattle.fields.proofs.put.Statement.{statement}
 use Rattle.fields.proofs.put.Tie as tie
 
@@ -43,9 +42,11 @@ loop-less c = omega arith
 
 loop-again : tie.Need-loop-again Inv-loop μ-loop
 loop-again c =
-    let a = c .before .before .before .args in
+    let at-start = c .before .before .before in
+    let a = at-start .args in
     let h : a .at + c .before .before .loop .i < length (a .out .now) = omega arith in (
-      rw (c .before .before .loop .inv .0, add-one) (paste-suc (a .out .now) (a .at) (a .rec .now) (c .before .before .loop .i) nan h (c .before .loop-test .taken)),
+      rw (c .before .before .loop .inv .0, add-one)
+          (paste-suc (a .out .now) (a .at) (a .rec .now) (c .before .before .loop .i) nan h (c .before .loop-test .taken)),
       omega arith,
       simp length-set (c .before .before .loop .inv .2),
     )
@@ -53,15 +54,11 @@ loop-again c =
 same-length : tie.Need-same-length Inv-loop μ-loop
 same-length c = c .before .loop .inv .2
 
-whole : (l : List Float) (o : ℕ) (r : List Float) → paste l o r (length r) ≡ written l o r
-unfolding written
-whole l o r = rw take-length (append-assoc (take o l) r (drop (o + length r) l))
-
 returns : tie.Need-returns Inv-loop μ-loop
 returns c =
     let a = c .before .before .args in
     let e : c .before .loop .i ≡ length (a .rec .now) = omega arith in
-    c .before .loop .inv .0 ∙ ap (paste (a .out .now) (a .at) (a .rec .now)) e ∙ whole (a .out .now) (a .at) (a .rec .now)
+    c .before .loop .inv .0 ∙ ap (paste (a .out .now) (a .at) (a .rec .now)) e ∙ pasted (a .out .now) (a .at) (a .rec .now)
 
 pub put-spec : {M : Type 1} → statement M
 put-spec =

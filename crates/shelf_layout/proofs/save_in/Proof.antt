@@ -1,0 +1,54 @@
+-- `save_in` tests the lengths and the doubles.
+use mathlib.Core.Path.{_∙_, sym}
+use borrow.Author.Tests.{eq-eqb, ne-eqb}
+use Rattle.shelf_layout.specs.Doors.{shelfSaveDoorOf}
+use borrow.Author.Needs.{needs}
+use Rattle.shelf_layout.proofs.save_in.Statement.{statement}
+use Rattle.shelf_layout.proofs.save_in.Tie as tie
+
+returns : tie.Need-returns
+unfolding shelfSaveDoorOf
+returns c = rw (ne-eqb _ _ (c .if1 .taken))
+
+returns-2 : tie.Need-returns-2
+unfolding shelfSaveDoorOf
+returns-2 c = rw (eq-eqb _ _ (c .before .if1 .left), ne-eqb _ _ (c .if2 .taken))
+
+shelf-ok-requires : tie.Need-shelf-ok-requires
+shelf-ok-requires c κs = search needs
+
+save-held-requires : tie.Need-save-held-requires
+save-held-requires c κs = search needs
+
+same-length : tie.Need-same-length
+same-length c = search needs
+
+returns-3 : tie.Need-returns-3
+unfolding shelfSaveDoorOf
+returns-3 c =
+    let at-if3 = c .before .before .before .before in
+    let at-if2 = at-if3 .before .before .before in
+    rw (eq-eqb _ _ (at-if2 .before .if1 .left), eq-eqb _ _ (at-if2 .if2 .left), sym (at-if3 .before .shelf-ok .ensures) ∙ at-if3 .if3 .taken)
+    (c .before .before .save-held .ensures)
+
+same-length-2 : tie.Need-same-length-2
+same-length-2 c = search needs
+
+returns-4 : tie.Need-returns-4
+unfolding shelfSaveDoorOf
+returns-4 c =
+    let at-if2 = c .before .before .before in
+    rw (eq-eqb _ _ (at-if2 .before .if1 .left), eq-eqb _ _ (at-if2 .if2 .left), sym (c .before .shelf-ok .ensures) ∙ c .if3 .left)
+
+pub save-in-spec : {M : Type 1} → statement M
+save-in-spec =
+    tie.close
+    (tie.spec
+    returns
+    returns-2
+    shelf-ok-requires
+    save-held-requires
+    same-length
+    returns-3
+    same-length-2
+    returns-4)

@@ -1,0 +1,4 @@
+pub mod Layout
+pub mod Doors
+pub mod RoundTrip
+pub mod Chain
