@@ -182,7 +182,7 @@ module _ (e : Setting) where
 
     f-hopStep : (spin : DVec3) (n : ℕ) (f : Flight) → Keeps e (Flying spin (suc n) f) (hopStep c (fromSpinVector spin) f) (OnWith (Flying spin n) Flew)
     unfolding hopStep
-    f-hopStep spin n f = t-fact (λ h. rw (← h) (t-know (λ w. at-ok) (λ ok. t-made (a-step n _) (t-then (a-test _ (hop-step refl)) (λ b d.
+    f-hopStep spin n f = t-fact (λ h. rw (← h) (t-know (λ w. at-ok) (λ ok. t-made _ _ (a-step n _) (t-then (a-test _ (hop-step refl)) (λ b d.
         t-then (l-clearance a-look _) (λ end v. t-then (t-given (l-hopArrival a-look _ _ _ _)) (λ a l. f-hopNext n f b ok d a (rw v at l))))))))
 
     f-hop : (start : BallState) → Keeps e (Only start) (hop c start) Flew
@@ -205,7 +205,7 @@ module _ (e : Setting) where
 
     f-groundStep : (n : ℕ) (r : Roll) → Keeps e (Rolling (suc n) r) (groundStep c r) (OnWith (Rolling n) Over)
     unfolding groundStep
-    f-groundStep n r = t-fact (λ on. t-made (a-step n _) (t-bind (a-when _ (a-point-own _)) (λ _. t-then (a-look _ _) (λ below h.
+    f-groundStep n r = t-fact (λ on. t-made _ _ (a-step n _) (t-bind (a-when _ (a-point-own _)) (λ _. t-then (a-look _ _) (λ below h.
         t-then (a-test _ (ground-step r refl on (rw h))) (λ b d. t-if (not (heldOf (stepOn c r .phase) (stepOn c r .state) below))
         (λ _. t-pure (λ w a. (a, h ∙ sym (ap (under (e .course)) d ∙ same-under (e .course) _ _ (put-stays c r (stepOn c r .state) (stepOn c r .rolling) below)))))
         (λ _. t-bind (a-point-own _) (λ _. t-pure (λ w a. (at-frame (λ j k h. h .1) a, refl)))))))))

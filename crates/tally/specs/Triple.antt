@@ -262,10 +262,10 @@ module _ {o : Oracle} where
     t-step s f = record { all = f }
 
     -- and what follows goes on with what it made
-    pub t-made : {Q : Past → Type 0} {B : Type 0} {S : B → Past → Type 0} {s : Made} {k : Made → M B}
+    pub t-made : {Q : Past → Type 0} {B : Type 0} {S : B → Past → Type 0} (s : Made) (k : Made → M B)
         → Triple o P (makeStep s) (λ _. Q) R → Triple o Q (k s) S R → Triple o P (makeStep s >>= k) S R
     unfolding makeStep _>>=_ bind reach
-    t-made t g = record { all = λ w p. g .all (stepMade w) (t .all w p) }
+    t-made s k t g = record { all = λ w p. g .all (stepMade w) (t .all w p) }
 
     pub t-left : {Q : ℕ → Past → Type 0} (c : Conditions) → ((w : Past) → P w → Q (c .«step_limit» - w .log .steps) w) → Triple o P (stepsLeft c) Q R
     unfolding stepsLeft reach
