@@ -66,7 +66,7 @@ class Stopped(Refused):
 # kind "constant" with e, or "penner"; law "constant", "quadratic" or "exponential" with v_ref
 Surface = namedtuple("Surface", "mu_slide mu_roll kind e law v_ref compliance pivot", defaults=("penner", 0.0, "quadratic", 2.5, 1.0, 0.001))
 Patch = namedtuple("Patch", "x_lo x_hi z_lo z_hi h0 a b surface", defaults=(0.0, 0.0, 0.0, 0))
-Physics = namedtuple("Physics", "dt stop_speed roll_threshold min_hop_height max_time max_impacts", defaults=(0.001, 0.01, 0.01, 0.005, 120.0, 200))
+Physics = namedtuple("Physics", "dt stop_speed roll_threshold min_hop_height max_time max_impacts", defaults=(0.001, 0.01, 0.01, 0.005, 120.0, 64))
 Ball = namedtuple("Ball", "mass_kg diameter_m inertia_factor cd_sub cd_super cd_spin sr_sat cl_sub cl_super sr_scale re_crit re_width")
 Landing = namedtuple("Landing", "time pos vel spin", defaults=(0.0, (0.0, 0.0, 0.0), (0.0, 0.0, 0.0), (0.0, 0.0, 0.0)))
 State = namedtuple("State", "time pos vel spin")

@@ -98,7 +98,7 @@ fn boundaries(s: &Shot) -> Vec<Case> {
         out.push(Case::new("steps", &s.clone().with_word(STEP_LIMIT, limit.clamp(1, 2_000_000)), PROGRAM));
     }
     for most in [0, 1, 2, c as u64, c as u64 + 1] {
-        out.push(Case::new("impacts", &s.clone().with_word(MAX_IMPACTS, most.min(1000)), PROGRAM));
+        out.push(Case::new("impacts", &s.clone().with_word(MAX_IMPACTS, most.min(64)), PROGRAM));
     }
     if p > 2 {
         // t_end at a point's time, and just about the tolerance around it; then with that many steps only
@@ -180,9 +180,9 @@ fn main() {
         assert!(line.is_empty() || printed(&e.out) == line, "{} instead of {line}", printed(&e.out));
         keep(e, &mut entries, &mut seen);
     }
-    // one of every six: numbers 1 to 8, then a few lengths, 12 among them
+    // one of every six, and all of some: numbers 1 to 8, then a few lengths, 12 among them
     for (i, c) in number_cases().into_iter().enumerate() {
-        if i % 6 == 0 || c.what == "list length" {
+        if i % 6 == 0 || ["list length", "max_impacts", "many impacts"].contains(&c.what) {
             keep(run(c), &mut entries, &mut seen);
         }
     }

@@ -237,7 +237,7 @@ pub fn settle(input: &[u8], contacts_len: usize, points_len: usize, log: bool) -
         && within(0.0, 1.0, f[2])
         && within(0.0, 1.0, f[3])
         && within(0.0, 600.0, f[4])
-        && max_impacts <= 1000
+        && max_impacts <= 64
         && (1..=2_000_000).contains(&step_limit);
     if !physics_ok {
         return Outcome::refused(4);

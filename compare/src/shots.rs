@@ -88,7 +88,17 @@ pub fn fairway() -> [u64; 8] {
     surface(1, 0.0, 0.40, 0.12, 1, 2.5, 1.0, 0.001)
 }
 
-/// Document 01's S.
+/// The most impacts that number 4 lets through, and the default: 02, paper 5.
+const MOST_IMPACTS: u64 = 64;
+
+/// A ball on a lively surface, without air: well over 64 rebounds, each a few steps.
+fn bouncing() -> Shot {
+    let mut s = bench().with(DT, 0.01).with(DENSITY, 0.0).with(MIN_HOP, 0.0).with(VEL + 1, -0.3).with_word(STEP_LIMIT, 2000);
+    s.surfaces = vec![surface(0, 0.99, 0.4, 0.1, 0, 1.0, 0.0, 0.0)];
+    s
+}
+
+/// Document 01's S, with the default of 02's paper 5.
 pub fn bench() -> Shot {
     let mut s = Shot { head: [0; 30], surfaces: vec![green()], areas: Vec::new() };
     s.set(DT, 0.001);
@@ -96,7 +106,7 @@ pub fn bench() -> Shot {
     s.set(ROLL_THRESHOLD, 0.01);
     s.set(MIN_HOP, 0.005);
     s.set(MAX_TIME, 120.0);
-    s.head[MAX_IMPACTS] = 200;
+    s.head[MAX_IMPACTS] = MOST_IMPACTS;
     s.head[STEP_LIMIT] = 1000;
     for (i, b) in TOUR.iter().enumerate() {
         s.set(BALL + i, *b);
@@ -238,7 +248,7 @@ pub fn random_shot(r: &mut Rng) -> Shot {
     s.set(ROLL_THRESHOLD, r.pick(&[0.01, 0.01, 0.0, 0.2, 1.0]));
     s.set(MIN_HOP, r.pick(&[0.005, 0.005, 0.0, 0.001, 0.05, 1.0]));
     s.set(MAX_TIME, r.pick(&[0.0, 0.05, 0.5, 2.0, 5.0, 5.0, 10.0]) * r.range(0.5, 1.0));
-    s.head[MAX_IMPACTS] = r.pick(&[200, 200, 200, 1000, 0, 1, 2, 3, 5]);
+    s.head[MAX_IMPACTS] = r.pick(&[64, 64, 64, 63, 0, 1, 2, 3, 5]);
     s.head[STEP_LIMIT] = r.pick(&[1000, 5000, 5000, 2_000_000, 1, 2, 10, 100]);
     if r.chance(3) {
         s.set(BALL, r.scale(0.02, 0.1));
@@ -417,7 +427,7 @@ pub fn change_field(r: &mut Rng, s: &mut Shot) {
     let which = r.below(30 + 8 + 8);
     if which < 30 {
         match which {
-            MAX_IMPACTS => s.head[which] = r.pick(&[0, 1, 1000, 1001, u64::MAX, 1 << 63, 999]),
+            MAX_IMPACTS => s.head[which] = r.pick(&[0, 1, 63, 64, 65, 66, 200, 1000, u64::MAX, 1 << 63]),
             STEP_LIMIT => s.head[which] = r.pick(&[0, 1, 2, 2_000_000, 2_000_001, u64::MAX, 1 << 32]),
             _ => {
                 let (lo, hi) = head_range(which);
@@ -489,7 +499,7 @@ pub fn snap(r: &mut Rng, s: &mut Shot, ran: &Outcome, ample: (usize, usize)) -> 
             3 => lend.0 = r.below(ran.contacts.len() + 2),
             4 => s.head[STEP_LIMIT] = one(r, ran.steps).max(1),
             5 => s.head[STEP_LIMIT] = 1 + r.below(ran.steps as usize + 2) as u64,
-            6 => s.head[MAX_IMPACTS] = one(r, ran.contacts.len() as u64).min(1000),
+            6 => s.head[MAX_IMPACTS] = one(r, ran.contacts.len() as u64).min(MOST_IMPACTS),
             7 => {
                 // max_time so that t_end meets a time of the run
                 let t =
@@ -627,8 +637,14 @@ pub fn number_cases() -> Vec<Case> {
             out.push(Case::new("field", &base.clone().with(f, x), PROGRAM));
         }
     }
-    for n in [0, 1, 1000, 1001, u64::MAX] {
+    for n in [0, 1, 63, 64, 65, 200, 1000, u64::MAX] {
         out.push(Case::new("max_impacts", &base.clone().with_word(MAX_IMPACTS, n), PROGRAM));
+    }
+    // more rebounds than max_impacts allows, on contact lists about as long as that
+    for n in [62, 63, 64, 65] {
+        for contacts in [62, 63, 64] {
+            out.push(Case::new("many impacts", &bouncing().with_word(MAX_IMPACTS, n), (contacts, PROGRAM.1)));
+        }
     }
     for n in [0, 1, 2_000_000, 2_000_001, u64::MAX] {
         out.push(Case::new("step_limit", &base.clone().with_word(STEP_LIMIT, n), PROGRAM));
@@ -794,7 +810,7 @@ const ARRIVAL_22: [[u64; 40]; 3] = [
         4576918229304087675,
         4572414629676717179,
         4638144666238189568,
-        200,
+        64,
         3000,
         4582812511525602827,
         4596906179737166431,
@@ -836,7 +852,7 @@ const ARRIVAL_22: [[u64; 40]; 3] = [
         4576918229304087675,
         4572414629676717179,
         4638144666238189568,
-        200,
+        64,
         3000,
         4588835593555348869,
         4598429067007015174,
@@ -878,7 +894,7 @@ const ARRIVAL_22: [[u64; 40]; 3] = [
         4576918229304087675,
         4572414629676717179,
         4638144666238189568,
-        200,
+        64,
         3000,
         4584798473385931300,
         4599629345732563572,
@@ -1022,7 +1038,7 @@ pub fn rare_cases(r: &mut Rng, s: &mut Shot) -> Vec<Case> {
             s.areas = vec![area((-500.0, 500.0), (-500.0, 500.0), 0.0, -a, r.pick(&[0.0, a, 0.1]), 0)];
             s.surfaces[0] = surface(0, r.range(0.3, 1.0), r.pick(&[0.0, 0.4]), 0.05, 0, 1.0, 0.0, 0.0);
             *s = s.clone().with3(POS, [0.0, 0.0, 0.0]).with3(VEL, [r.range(0.0, 20.0), -r.range(0.2, 8.0), 0.0]);
-            s.head[MAX_IMPACTS] = 200;
+            s.head[MAX_IMPACTS] = MOST_IMPACTS;
             s.head[STEP_LIMIT] = 3000;
             s.set(MAX_TIME, 3.0);
             take_hits();

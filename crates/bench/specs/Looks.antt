@@ -28,7 +28,7 @@ physics =
       «stop_speed» = dec 1 100;
       «roll_threshold» = dec 1 100;
       «min_hop_height» = dec 4 10000;
-      «max_impacts» = 200;
+      «max_impacts» = 64;
       «max_time» = dec 4 100;
     }
 

@@ -1,6 +1,7 @@
 -- Statements. What a settle leaves, under every answer: each pushed point is that of a state that passed test 22, each contact that of two such states (or the
 -- landing) and of a sample of the course, no more of either than the lists have room for, and no more steps than step_limit.
-use Prim.Native.Nat.{ℕ, zero, suc, _+_, _-_, _/_, _≤_, _<_, zero-le}
+use Prim.Native.Nat.{ℕ, zero, suc, _+_, _-_, _/_, _≤_, _<_, zero-le, max}
+use native.Mathlib.Nat.{le-max-left, le-max-right}
 use native.Mathlib.Omega.{arith}
 use mathlib.Core.Path.{_≡_, refl, ap}
 use mathlib.Core.List.{List, [], _∷_, _++_}
@@ -25,6 +26,7 @@ use Rattle.look.specs.Within.{and-parts, coord-fin}
 use Rattle.course.specs.Sheet.{Accepted, answerOf, courseOf}
 use Rattle.records.specs.Records.{Records, null, flat, shown}
 use Rattle.shot.specs.declared.Shot.{Shot}
+use Rattle.shot.specs.declared.GroundPhysics.{GroundPhysics}
 use Rattle.state.specs.State.{vecOk, stateOk}
 use Rattle.tally.specs.declared.Conditions.{Conditions}
 use Rattle.tally.specs.Language.{Ran, Outcome, goes, stops, phaseNumber}
@@ -86,6 +88,9 @@ module _ (sheet : List ℕ) (shot : Shot) (cs ps : List Float) where
   abbrev limit : ℕ
   limit = shot .«step_limit»
 
+  abbrev p : GroundPhysics
+  p = shot .physics
+
   abbrev landing : BallState
   landing = shot .landing
 
@@ -107,11 +112,13 @@ module _ (sheet : List ℕ) (shot : Shot) (cs ps : List Float) where
     -- no more than the lists have room for
     pub contacts-fit : length contacts ≤ length cs / 20
     pub points-fit : length points ≤ length ps / 11
+    -- nor than max_impacts allows
+    pub contacts-few : length contacts ≤ max 1 (p .«max_impacts»)
     pub each-contact : Each (ContactOf o) contacts
     pub each-point : Each PointOf points
     pub steps : got .settled .steps ≤ limit
     -- 20 comes with every lent contact record pushed, 21 with every lent point record, 23 with step_limit steps made; 22 where a test failed
-    pub contacts-full : got .settled .answer ≡ 20 → length contacts ≡ length cs / 20
+    pub contacts-full : got .settled .answer ≡ 20 → (length contacts ≡ length cs / 20) × (length contacts < max 1 (p .«max_impacts»))
     pub points-full : got .settled .answer ≡ 21 → length points ≡ length ps / 11
     pub failed : got .settled .answer ≡ 22 → Failed o c (misses o t) (got .settled .rest)
     pub limit-reached : got .settled .answer ≡ 23 → got .settled .steps ≡ limit
@@ -121,8 +128,11 @@ module _ (sheet : List ℕ) (shot : Shot) (cs ps : List Float) where
     -- the final state passes test 22
     pub rest : stateOk (got .settled .rest) ≡ true
 
+  impacts-left : (n : ℕ) → suc (n - 1) + 0 ≤ max 1 n
+  impacts-left n = let a = le-max-left 1 n in let b = le-max-right 1 n in omega (arith, a, b)
+
   abbrev e : Setting
-  e = record { course = o; conditions = c; contacts = length cs / 20; points = length ps / 11; most = suc (p .«max_impacts» - 1) }
+  e = record { course = o; conditions = c; contacts = length cs / 20; points = length ps / 11; most = max 1 (p .«max_impacts») }
 
   -- what the whole run has behind it
   abbrev end : Past
@@ -147,15 +157,15 @@ module _ (sheet : List ℕ) (shot : Shot) (cs ps : List Float) where
   answer-is (stops n) w h = numbers (h .why)
     where
       numbers : {n : ℕ} → Why e w n → (20 ≤ n) × (n ≤ 23)
-      numbers (contacts-full a b) = (omega arith, omega arith)
+      numbers (contacts-full a b d) = (omega arith, omega arith)
       numbers (points-full a b) = (omega arith, omega arith)
       numbers (failed a) = (omega arith, omega arith)
       numbers (limit-reached a b) = (omega arith, omega arith)
 
   -- the reason of each number
   module _ {w : Past} where
-    reason-20 : Why e w 20 → length (w .log .contacts .records) ≡ length cs / 20
-    reason-20 (contacts-full a b) = b
+    reason-20 : Why e w 20 → (length (w .log .contacts .records) ≡ length cs / 20) × (length (w .log .contacts .records) < max 1 (p .«max_impacts»))
+    reason-20 (contacts-full a b d) = (b, d)
 
     reason-21 : Why e w 21 → length (w .log .points .records) ≡ length ps / 11
     reason-21 (points-full a b) = b
@@ -186,7 +196,7 @@ module _ (sheet : List ℕ) (shot : Shot) (cs ps : List Float) where
           few-impacts = zero-le;
           counted = (refl, zero-le);
         };
-        frame = omega arith;
+        frame = impacts-left (p .«max_impacts»);
         good = refl;
         on = refl;
       }) in
@@ -201,6 +211,7 @@ module _ (sheet : List ℕ) (shot : Shot) (cs ps : List Float) where
         points-counted = rw (h, value-is);
         contacts-fit = s .contacts .few;
         points-fit = s .points .few;
+        contacts-few = s .few-impacts;
         each-contact = s .contacts .each;
         each-point = s .points .each;
         steps = rw (h, value-is) (s .counted .1);

@@ -85,9 +85,9 @@ module _ (e : Setting) where
     pub few-impacts : length (l .contacts .records) ≤ e .most
     pub counted : (l .steps ≡ made) × (l .steps ≤ e .conditions .«step_limit»)
 
-  -- why a run stops
+  -- why a run stops; 20 where a contact more was to come
   pub data Why (w : Past) : ℕ → Type 0 where
-    contacts-full : w .off ≡ [] → length (w .log .contacts .records) ≡ e .contacts → Why w 20
+    contacts-full : w .off ≡ [] → length (w .log .contacts .records) ≡ e .contacts → length (w .log .contacts .records) < e .most → Why w 20
     points-full : w .off ≡ [] → length (w .log .points .records) ≡ e .points → Why w 21
     failed : Failed (e .course) (e .conditions) (w .off) (w .log .good) → Why w 22
     limit-reached : w .off ≡ [] → w .log .steps ≡ e .conditions .«step_limit» → Why w 23
@@ -173,7 +173,7 @@ module _ {e : Setting} where
           on = t .on;
         })
         (λ w t i. let all = is-full is (e .contacts) (w .log .contacts) (t .sound .contacts) i in
-        record { sound = t .sound; why = contacts-full (t .on) all })
+        record { sound = t .sound; why = contacts-full (t .on) all (f _ _ (t .frame) .1) })
 
     pub a-mark : Keeps e (At e F g) mark (λ _. At e F g)
     a-mark = t-mark (λ w a. a)

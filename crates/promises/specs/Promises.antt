@@ -1,37 +1,38 @@
 -- Statements. What 01 promises of every settle, on one page: each is one statement on what a call gives, proved from the lemmas of Finite.
-use Prim.Native.Nat.{ℕ, suc, _/_, _≤_, _<_}
+use Prim.Native.Nat.{ℕ, suc, _/_, _≤_, _<_, zero-le, max}
+use native.Mathlib.Nat.{max-le}
 use native.Mathlib.Omega.{arith}
 use mathlib.Core.Path.{_≡_, refl, _∙_}
 use mathlib.Core.Logic.{_⊎_, inl, inr}
-use mathlib.Core.Bool.{Bool, true, false}
+use mathlib.Core.Bool.{Bool, true, false, _&&_}
 use mathlib.Core.List.{List}
-use lib.Dec.{T, eqb}
+use lib.Dec.{T, eqb, leb, leb→le}
 use lib.Ieee.{Float}
 use lib.ListN.{length}
 use borrow.Author.Tests.{eqb-true, eqb-false, ne-eqb}
 use Rattle.number.specs.Ops.{dec}
-use Rattle.number.specs.Number.{aboutOf, finiteOf}
+use Rattle.number.specs.Number.{withinOf, aboutOf, finiteOf}
 use Rattle.state.specs.declared.BallState.{BallState}
 use Rattle.aero.specs.declared.BallModel.{BallModel}
 use Rattle.state.specs.State.{coordOk}
 use Rattle.look.specs.Rect.{noRect}
 use Rattle.look.specs.Tree.{exec}
 use Rattle.look.specs.Resume.{steps as stepsOf}
-use Rattle.look.specs.Within.{Edges, coord-fin, edges-ok, no-rect-ok}
+use Rattle.look.specs.Within.{Edges, and-parts, coord-fin, edges-ok, no-rect-ok}
 use Rattle.look.specs.declared.Rect.{Rect}
 use Rattle.course.specs.Sheet.{courseOf}
 use Rattle.shot.specs.declared.Shot.{Shot}
 use Rattle.shot.specs.declared.GroundPhysics.{GroundPhysics}
 use Rattle.state.specs.declared.Termination.{Termination}
 use Rattle.state.specs.declared.Termination.the-variants.{Nothing, Rest, MaxTime, MaxImpacts}
-use Rattle.shot.specs.Tests.{physicsOk, inputTest}
+use Rattle.shot.specs.Tests.{stepPhysicsOk, physicsOk, inputTest}
 use Rattle.ground.specs.Tests.{refusalOf}
 use Rattle.roll.specs.Roll.{stepOn, putDown, groundStep}
 use Rattle.ground_phase.specs.GroundPhase.{groundFrom, ground}
 use Rattle.strike.specs.Strike.{strike, rebounds, dropped, drop}
 use Rattle.train.specs.Train.{toGround, trainFrom, train}
 use Rattle.tally.specs.Language.{stepsLeft}
-use Rattle.ground.specs.Passed.{refused-by, settle-sheet}
+use Rattle.ground.specs.Passed.{refused-by, settle-sheet, settle-passes}
 use Rattle.ground.specs.Settle.{Result, noState, reportOf, conditionsOf, runOf, settleOf}
 use Rattle.tally.specs.Triple.{misses}
 use Rattle.promises.specs.Terms.{Answer, PointOf, ContactOf, Failed}
@@ -44,6 +45,16 @@ About x = T (finiteOf x) × T (aboutOf (dec 1000000 1) x)
 about : (r : Rect) → Edges (λ x. T (coordOk x)) r → Edges About r
 unfolding coordOk
 about r h = ((coord-fin _ (h .0), h .0), (coord-fin _ (h .1), h .1), (coord-fin _ (h .2), h .2), (coord-fin _ (h .3), h .3))
+
+-- test 4 lets through at most 64 impacts
+at-most-64 : (p : GroundPhysics) (limit : ℕ) → physicsOk p limit ≡ true → p .«max_impacts» ≤ 64
+unfolding physicsOk
+at-most-64 p limit h =
+    let n = leb (p .«max_impacts») 64 in
+    let x = stepPhysicsOk (p .dt) (p .«stop_speed») (p .«roll_threshold») && withinOf (dec 0 1) (dec 1 1) (p .«min_hop_height»)
+    && withinOf (dec 0 1) (dec 600 1) (p .«max_time») in
+    let t = and-parts (x && n && leb 1 limit) (leb limit 2000000) (rw h tt) .0 in
+    leb→le (p .«max_impacts») 64 (and-parts x n (and-parts (x && n) (leb 1 limit) t .0) .1)
 
 module _ (sheet : List ℕ) (shot : Shot) (cs ps : List Float) where
   -- what the call gives; the number of the first test that it fails, or 0
@@ -89,7 +100,7 @@ module _ (sheet : List ℕ) (shot : Shot) (cs ps : List Float) where
 
   -- 20, 21: "a push finds contacts, points full". 20 comes only with every lent contact record pushed, 21 only with every lent point record
   pub only-20 : got .settled .answer ≡ 20 → got .settled .contacts ≡ length cs / 20
-  only-20 h = let l = settle-leaves sheet shot cs ps (stopped 20 (omega arith) h) in l .contacts-counted ∙ l .contacts-full h
+  only-20 h = let l = settle-leaves sheet shot cs ps (stopped 20 (omega arith) h) in l .contacts-counted ∙ l .contacts-full h .0
 
   pub only-21 : got .settled .answer ≡ 21 → got .settled .points ≡ length ps / 11
   only-21 h = let l = settle-leaves sheet shot cs ps (stopped 21 (omega arith) h) in l .points-counted ∙ l .points-full h
@@ -118,6 +129,27 @@ module _ (sheet : List ℕ) (shot : Shot) (cs ps : List Float) where
   refused-result h =
       let e = ne-eqb number 0 h in
       record { answer = rw e; counts = (rw e, rw e, rw e); state = rw e; rect = rw e; lists = (rw e, rw e) }
+
+  -- ---- how many contacts
+
+  -- of every call: no more than max(1, max_impacts), under every answer
+  pub few-contacts : got .settled .contacts ≤ max 1 (shot .physics .«max_impacts»)
+  few-contacts = go (eqb number 0) refl
+    where
+      go : (b : Bool) → eqb number 0 ≡ b → got .settled .contacts ≤ max 1 (shot .physics .«max_impacts»)
+      go true e = let l = settle-leaves sheet shot cs ps (eqb-true number 0 e) in rw (l .contacts-counted) (l .contacts-few)
+      go false e = rw (refused-result (eqb-false number 0 e) .counts .0) zero-le
+
+  -- 02, paper 5: "a contact list of 64 records or more can never bring number 20"
+  pub never-20 : 64 ≤ length cs / 20 → got .settled .answer ≡ 20 → ⊥
+  never-20 r h =
+      let a = stopped 20 (omega arith) h in
+      let full = settle-leaves sheet shot cs ps a .contacts-full h in
+      let i = full .0 in
+      let j = full .1 in
+      let four = settle-passes sheet shot (length cs) (length ps) a .physics in
+      let k : max 1 (shot .physics .«max_impacts») ≤ 64 = max-le (omega arith) (at-most-64 (shot .physics) (shot .«step_limit») four) in
+      omega (arith, r, i, j, k)
 
   -- 01: "Result of a settle: the number": 0 comes from accepted calls alone
   pub answered : got .settled .answer ≡ 0 → number ≡ 0

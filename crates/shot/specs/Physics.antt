@@ -2,7 +2,7 @@
 use Rattle.number.specs.Ops.{dec}
 use Rattle.shot.specs.declared.GroundPhysics.{GroundPhysics}
 
--- ground.rs, GroundPhysics::new
+-- ground.rs, GroundPhysics::new; 02, paper 5, of max_impacts: "Make 64 the largest accepted and the default in place of 200"
 unfoldable pub physicsNew : GroundPhysics
 physicsNew =
     record {
@@ -10,6 +10,6 @@ physicsNew =
       «stop_speed» = dec 1 100;
       «roll_threshold» = dec 1 100;
       «min_hop_height» = dec 5 1000;
-      «max_impacts» = 200;
+      «max_impacts» = 64;
       «max_time» = dec 120 1;
     }

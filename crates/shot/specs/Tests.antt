@@ -15,11 +15,11 @@ use Rattle.shot.specs.declared.Shot.{Shot}
 unfoldable pub stepPhysicsOk : Float → Float → Float → Bool
 stepPhysicsOk dt stop roll = withinOf (dec 1 10000) (dec 1 100) dt && withinOf (dec 0 1) (dec 1 1) stop && withinOf (dec 0 1) (dec 1 1) roll
 
--- 4: "min_hop_height 0..1; max_time 0..600; max_impacts 0..1000; step_limit 1..2,000,000"
+-- 4: "min_hop_height 0..1; max_time 0..600; .. step_limit 1..2,000,000"; 02, paper 5, of max_impacts: "Make 64 the largest accepted"
 unfoldable pub physicsOk : GroundPhysics → ℕ → Bool
 physicsOk p limit =
     stepPhysicsOk p.dt p.«stop_speed» p.«roll_threshold» && withinOf (dec 0 1) (dec 1 1) p.«min_hop_height» && withinOf (dec 0 1) (dec 600 1) p.«max_time»
-    && leb p.«max_impacts» 1000 && leb 1 limit && leb limit 2000000
+    && leb p.«max_impacts» 64 && leb 1 limit && leb limit 2000000
 
 -- 5: "mass 0.001..1; diameter 0.005..0.5; inertia 0.1..1; cd and cl fields 0..10; sr_sat, sr_scale 0.001..10; re_crit 0..1e7; re_width 1..1e7"
 unfoldable pub ballOk : BallModel → Bool

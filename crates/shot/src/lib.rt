@@ -21,7 +21,7 @@ pub struct GroundPhysics {
 }
 
 impl GroundPhysics {
-    // 1 ms steps, 5 mm hop transition, 0.01 m/s stop and roll thresholds, at most 200 impacts and 120 s.
+    // 1 ms steps, 5 mm hop transition, 0.01 m/s stop and roll thresholds, at most 64 impacts and 120 s.
     pub fn new() -> GroundPhysics
         ensures { λ r. ⌜ r ≡ physicsNew ⌝ }
     {
@@ -30,7 +30,7 @@ impl GroundPhysics {
             stop_speed: DEFAULT_STOP_SPEED,
             roll_threshold: DEFAULT_ROLL_THRESHOLD,
             min_hop_height: 0.005,
-            max_impacts: 200,
+            max_impacts: 64,
             max_time: 120.0,
         }
     }
@@ -61,7 +61,7 @@ fn physics_ok(p: GroundPhysics, step_limit: u64) -> bool
     step_physics_ok(p.dt, p.stop_speed, p.roll_threshold)
         & number::within(0.0, 1.0, p.min_hop_height)
         & number::within(0.0, 600.0, p.max_time)
-        & (p.max_impacts <= 1000)
+        & (p.max_impacts <= 64)
         & (1 <= step_limit)
         & (step_limit <= 2000000)
 }
