@@ -35,9 +35,10 @@ WORDS = {
     21: "the list of points is full",
     22: "the ball left the range of 1,000,000, or a number overflowed",
     23: "the step limit was reached",
-    24: "the board holds 256 entries",
+    24: "this bay has used its 32 entries",
     25: "the shot number is on the board already",
     26: "there is no entry at that place",
+    31: "the bay is above 7",
     32: "a name is 1 to 12 letters from A to Z",
     33: "the shelf holds 16 names",
     34: "there is no such name on the shelf",
@@ -125,7 +126,7 @@ def _library():
     lib.dimple_impact.argtypes = [ctypes.c_char_p, size, doubles, size, doubles, size]
     lib.dimple_height.argtypes = [ctypes.c_char_p, size, ctypes.c_double, ctypes.c_double, doubles, size]
     lib.dimple_board_new.argtypes = [ctypes.c_double, ctypes.c_double, doubles, size]
-    lib.dimple_board_enter.argtypes = [doubles, size, ctypes.c_uint32, ctypes.c_uint32, ctypes.c_double, ctypes.c_double]
+    lib.dimple_board_enter.argtypes = [doubles, size, ctypes.c_uint32, ctypes.c_uint32, ctypes.c_uint32, ctypes.c_double, ctypes.c_double]
     lib.dimple_board_place.argtypes = [doubles, size, ctypes.c_uint64, doubles, size]
     lib.dimple_shelf_new.argtypes = [doubles, size]
     lib.dimple_shelf_save.argtypes = [doubles, size, ctypes.c_char_p, size, doubles, size]
@@ -229,9 +230,9 @@ def on_published_ground(run, rectangle):
 
 
 class Board:
-    """Up to 256 shots: those at rest before those still moving, then least distance from the pin first, equal distances by the lower shot number."""
+    """Up to 32 shots of each of 8 bays: those at rest before those still moving, then least distance from the pin first, equal distances by the lower shot number."""
 
-    LENGTH = 1027
+    LENGTH = 1283
 
     def __init__(self, pin):
         self._buffer = _doubles(self.LENGTH)
@@ -242,13 +243,13 @@ class Board:
         if answer:
             raise Refused(answer)
 
-    def enter(self, shot, run):
-        """Enters a run with answer 0 under a shot number from 0 to 2^32 - 1."""
+    def enter(self, shot, run, bay=0):
+        """Enters a run with answer 0 under a shot number from 0 to 2^32 - 1, for a bay from 0 to 7."""
         if run.answer != 0:
             raise ValueError(f"a run with answer {run.answer} is not to be entered")
         x, _, z = run.rest.pos
         number, ended = _whole(shot, 32, "the shot number"), TERMINATIONS.index(run.termination)
-        self._check(_call("dimple_board_enter", self._buffer, self.LENGTH, number, ended, x, z))
+        self._check(_call("dimple_board_enter", self._buffer, self.LENGTH, _whole(bay, 32, "the bay"), number, ended, x, z))
 
     def place(self, at):
         """The shot number at a place, from 0."""

@@ -8,24 +8,25 @@ use std::cmp::Ordering;
 #[cfg(has_dimple_board_enter)]
 unsafe extern "C" {
     fn dimple_board_new(pin_x: f64, pin_z: f64, board: *mut f64, len: usize) -> u32;
-    fn dimple_board_enter(board: *mut f64, len: usize, shot: u32, termination: u32, x: f64, z: f64) -> u32;
+    fn dimple_board_enter(board: *mut f64, len: usize, bay: u32, shot: u32, termination: u32, x: f64, z: f64) -> u32;
     fn dimple_board_place(board: *const f64, len: usize, place: u64, shot: *mut f64, shot_len: usize) -> u32;
 }
 
 /// The doubles of an entry and of a board.
-const WIDTH: usize = 4;
+const WIDTH: usize = 5;
 const LEN: usize = 3 + 256 * WIDTH;
 const GUARD: usize = 4;
 
 #[derive(Clone, Copy, Debug)]
 struct Entry {
     shot: u32,
+    bay: u32,
     termination: u32,
     x: f64,
     z: f64,
 }
 
-const EMPTY: Entry = Entry { shot: 0, termination: 0, x: 0.0, z: 0.0 };
+const EMPTY: Entry = Entry { shot: 0, bay: 0, termination: 0, x: 0.0, z: 0.0 };
 
 /// 02, paper 2: rest first; 01: least key, then lower shot number.
 fn order(pin: (f64, f64), e: &Entry, f: &Entry) -> Ordering {
@@ -61,7 +62,8 @@ impl Board {
         let pin = (near(l[0], 100_000.0) && near(l[1], 100_000.0)).then_some((l[0], l[1]))?;
         let mut all = vec![];
         for (i, d) in l[3..].chunks(WIDTH).enumerate() {
-            let e = Entry { shot: whole(d[0], 0, u32::MAX)?, termination: whole(d[1], u32::from(i < count), 3)?, x: d[2], z: d[3] };
+            let (shot, bay, termination) = (whole(d[0], 0, u32::MAX)?, whole(d[1], 0, 7)?, whole(d[2], u32::from(i < count), 3)?);
+            let e = Entry { shot, bay, termination, x: d[3], z: d[4] };
             all.push((near(e.x, 1e6) && near(e.z, 1e6)).then_some(e)?);
         }
         let past = all.split_off(count);
@@ -70,17 +72,19 @@ impl Board {
     fn doubles(&self) -> Vec<f64> {
         let mut l = vec![self.pin.0, self.pin.1, self.listing.len() as f64];
         for e in self.listing.iter().chain(&self.past) {
-            l.extend([f64::from(e.shot), f64::from(e.termination), e.x, e.z]);
+            l.extend([f64::from(e.shot), f64::from(e.bay), f64::from(e.termination), e.x, e.z]);
         }
         l
     }
-    /// 10, 25, 24.
+    /// 31, 10, 25, 24: this bay has used its 32. On a board with no place left, which the doors do not make, 24 too.
     fn refuses(&self, e: &Entry) -> Option<u32> {
-        if !(near(e.x, 1e6) && near(e.z, 1e6)) {
+        if e.bay > 7 {
+            Some(31)
+        } else if !(near(e.x, 1e6) && near(e.z, 1e6)) {
             Some(10)
         } else if self.listing.iter().any(|f| f.shot == e.shot) {
             Some(25)
-        } else if self.listing.len() == 256 {
+        } else if self.listing.iter().filter(|f| f.bay == e.bay).count() >= 32 || self.listing.len() == 256 {
             Some(24)
         } else {
             None
@@ -121,6 +125,7 @@ fn place(l: &[f64], i: u64, out: &[f64]) -> (u32, Vec<f64>) {
 pub struct Counts {
     answers: std::collections::BTreeMap<(&'static str, u32), u64>,
     ties: u64,
+    filled: u64,
 }
 
 impl Counts {
@@ -129,6 +134,7 @@ impl Counts {
             *self.answers.entry(k).or_default() += n;
         }
         self.ties += o.ties;
+        self.filled += o.filled;
     }
 }
 
@@ -171,7 +177,7 @@ mod doors {
     pub fn enter(l: &mut Vec<f64>, e: &Entry, r: &mut Rng, c: &mut Counts) -> u32 {
         let mut v = lent(l, r);
         let guard = v[l.len()..].to_vec();
-        let got = unsafe { dimple_board_enter(v.as_mut_ptr(), l.len(), e.shot, e.termination, e.x, e.z) };
+        let got = unsafe { dimple_board_enter(v.as_mut_ptr(), l.len(), e.bay, e.shot, e.termination, e.x, e.z) };
         let want = super::enter(l, e);
         *l = want.1.clone();
         let answer = want.0;
@@ -239,6 +245,7 @@ fn random_spot(r: &mut Rng, pin: f64) -> f64 {
 fn random_entry(r: &mut Rng, pin: (f64, f64), shots: usize) -> Entry {
     Entry {
         shot: if r.chance(50) { r.pick(&[0, u32::MAX, 1 << 31]) } else { r.below(shots) as u32 },
+        bay: if r.chance(60) { r.pick(&[8, 9, u32::MAX]) } else { r.below(8) as u32 },
         termination: if r.chance(60) { r.pick(&[0, 4, u32::MAX]) } else { r.pick(&[1, 1, 2, 3]) },
         x: random_spot(r, pin.0),
         z: random_spot(r, pin.1),
@@ -257,10 +264,20 @@ fn chain(r: &mut Rng, c: &mut Counts) -> Vec<f64> {
     let mut accepted: Vec<Entry> = vec![];
     let calls = if r.chance(4) { 700 } else { r.below(120) };
     let shots = r.pick(&[20, 300, 3000]);
+    // one bay busier than the others in some chains, so that it fills while they go on
+    let busy = r.pick(&[None, Some(r.0 as u32 % 8)]);
     for _ in 0..calls {
-        let e = random_entry(r, pin, shots);
-        if doors::enter(&mut l, &e, r, c) == 0 {
-            accepted.push(e);
+        let mut e = random_entry(r, pin, shots);
+        if let Some(bay) = busy
+            && r.chance(2)
+        {
+            e.bay = bay;
+        }
+        let used = accepted.iter().filter(|f| f.bay == e.bay).count();
+        match doors::enter(&mut l, &e, r, c) {
+            0 => accepted.push(e),
+            24 if used < 32 => crate::different("board", "a bay with entries left was turned back by 24".into(), &[]),
+            _ => {}
         }
         let mut listing = accepted.clone();
         listing.sort_by(|e, f| order(pin, e, f));
@@ -273,6 +290,7 @@ fn chain(r: &mut Rng, c: &mut Counts) -> Vec<f64> {
             doors::place(&l, i, 1, r, c);
         }
     }
+    c.filled += u64::from(accepted.len() == 256);
     for i in 1..accepted.len() {
         c.ties += accepted[..i].iter().any(|f| order(pin, &Entry { shot: 0, ..accepted[i] }, &Entry { shot: 0, ..*f }) == Ordering::Equal) as u64;
     }
@@ -284,7 +302,7 @@ fn damaged(r: &mut Rng, c: &mut Counts, mut l: Vec<f64>) {
     match r.below(8) {
         0 => l = garbage(r, LEN),
         1 => {
-            let n = r.pick(&[0, 1, 2, 3, 771, LEN - 1, LEN + 1, LEN + WIDTH, 2000]);
+            let n = r.pick(&[0, 1, 2, 3, 771, 1027, LEN - 1, LEN + 1, LEN + WIDTH, 2000]);
             l.resize(n, 1.0);
         }
         2 => l[2] = r.below(260) as f64,
@@ -300,7 +318,7 @@ fn damaged(r: &mut Rng, c: &mut Counts, mut l: Vec<f64>) {
             // any listing, in no order, with repeats
             l[2] = r.below(257) as f64;
             for e in l[3..].chunks_mut(WIDTH) {
-                e.copy_from_slice(&[r.below(30) as f64, (1 + r.below(3)) as f64, r.range(-5.0, 5.0).round(), r.range(-5.0, 5.0).round()]);
+                e.copy_from_slice(&[r.below(30) as f64, r.below(8) as f64, (1 + r.below(3)) as f64, r.range(-5.0, 5.0).round(), r.range(-5.0, 5.0).round()]);
             }
         }
         _ => {
@@ -342,5 +360,6 @@ pub fn run(seed: u64, calls: u64, n: u64) {
     for ((door, answer), n) in &total.answers {
         println!("{door:12} {answer:4} {n:10}");
     }
-    println!("{} calls; {} accepted entries level with an earlier one but for the shot number", total.answers.values().sum::<u64>(), total.ties);
+    let calls = total.answers.values().sum::<u64>();
+    println!("{calls} calls; {} accepted entries level with an earlier one but for the shot number; {} boards filled, 32 a bay", total.ties, total.filled);
 }

@@ -7,7 +7,7 @@ use Rattle.state.specs.declared.Termination.the-variants.{Rest}
 use Rattle.board.specs.Rules.{near, answerOf}
 use Rattle.board.specs.Board.{emptyBoard, enterOf, newOf}
 
-nan-spot : enterOf (emptyBoard (dec 0 1) (dec 0 1)) (record { shot = 1; termination = Rest; x = nan; z = dec 0 1 }) .answer ≡ 10
+nan-spot : enterOf (emptyBoard (dec 0 1) (dec 0 1)) (record { shot = 1; bay = 0; termination = Rest; x = nan; z = dec 0 1 }) .answer ≡ 10
 unfolding enterOf answerOf near round neg le withinOf
 nan-spot = refl
 

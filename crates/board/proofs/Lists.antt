@@ -4,17 +4,17 @@ use native.Mathlib.Nat.{add-suc, suc-add, add-zero}
 use native.Mathlib.Numerals.{add-one}
 use native.Mathlib.Omega.{arith}
 use mathlib.Core.Path.{_≡_, refl, ap, _∙_, sym}
-use mathlib.Core.Bool.{Bool, true, false, _||_}
+use mathlib.Core.Bool.{Bool, true, false, _||_, cond}
 use mathlib.Core.List.{List, [], _∷_, _++_, append-assoc}
 use lib.Dec.{eqb}
 use lib.ListN.{length, take, drop, getD, set, length-take, length-drop, drop-of-length-le, List·getD-map}
 use lib.Seq.{drop-cons, getD-take, length-take-le, take-suc-set, drop-set-lt, take-set-lt, drop-append-le, take-at, append-snoc, take-take, take-all, set-split}
 use Rattle.board.specs.declared.Entry.{Entry}
 use Rattle.board.specs.declared.Board.{Board}
-use Rattle.board.specs.Rules.{isBefore, insert, holds, answerOf}
+use Rattle.board.specs.Rules.{isBefore, insert, holds, one, used, answerOf}
 use Rattle.board.specs.Board.{shots, listing, withListing, withEntry, answered, enterOf}
 use Rattle.board.specs.Sorting.{insert-length}
-use Rattle.board.specs.Tests.{Tested, far, repeated, full, taken, tested}
+use Rattle.board.specs.Tests.{Tested, no-bay, far, repeated, full, taken, tested}
 use Rattle.board.specs.Inner.{placeIn, insertedAt, Shows}
 
 -- the first n entries from i on, taken apart
@@ -54,6 +54,23 @@ module _ (l : List Entry) (n : ℕ) (fits : n ≤ length l) (i : ℕ) (d : Entry
     pub last : n ≤ i → i ≡ placeIn p (take n l)
     unfolding placeIn
     last h = sym (add-zero i) ∙ (rw (none-left l n i h fits) at left)
+
+  module _ (k : ℕ) (m : ℕ) (left : m + used k (drop i (take n l)) ≡ used k (take n l)) where
+    pub counts : i < n → m + one k (getD l i d) + used k (drop (i + 1) (take n l)) ≡ used k (take n l)
+    unfolding used
+    counts h = let e : m + (one k (getD l i d) + used k (drop (i + 1) (take n l))) ≡ used k (take n l) = rw (ahead l n i d h fits) at left in omega arith
+
+    pub counted : n ≤ i → m ≡ used k (take n l)
+    unfolding used
+    counted h = sym (add-zero m) ∙ (rw (none-left l n i h fits) at left)
+
+pub one-most : (k : ℕ) (e : Entry) → one k e ≤ 1
+unfolding one
+one-most k e = go (eqb (e .bay) k)
+  where
+    go : (t : Bool) → cond t 1 0 ≤ 1
+    go true = omega arith
+    go false = omega arith
 
 -- ---- the place is where `insert` puts the entry
 pub place-le : (p : Entry → Bool) (l : List Entry) → placeIn p l ≤ length l
@@ -146,10 +163,11 @@ pub room : (b : Board) (e : Entry) {n m : ℕ} → Shows (b .entries) (b .count)
 room b e {n} s a h = go (tested (listing b) e) (sym (a ∙ ap (λ (l : List Entry). answerOf l e) (s .same)) ∙ h)
   where
     go : {k : ℕ} → Tested (listing b) e k → k ≡ 0 → (length (listing b) ≡ b .count) × (b .count < 256)
-    go (far p) k = absurd (omega arith)
+    go (no-bay p) k = absurd (omega arith)
+    go (far p q) k = absurd (omega arith)
     go (repeated p q) k = absurd (omega arith)
-    go (full p q r) k = absurd (omega arith)
-    go (taken p q r) k =
+    go (full i p q) k = absurd (omega arith)
+    go (taken p q r u t) k =
         let i : n < 256 = let j = s .size in omega arith in
         let c = s .whole i in
         (s .size ∙ sym c, omega arith)

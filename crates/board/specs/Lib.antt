@@ -6,4 +6,5 @@ pub mod Sorting
 pub mod Comparing
 pub mod Keys
 pub mod Tests
+pub mod Bays
 pub mod Listing

@@ -1,12 +1,12 @@
 -- Statements. What the board promises of every list of calls from a new board: the listing is the accepted entries, sorted, with no shot number
--- twice. Which answers a call can give, and that a refused one changes nothing. Assumes nothing.
+-- twice, and no bay with more than 32. Which answers a call can give, and that a refused one changes nothing. Assumes nothing.
 use Prim.Native.Nat.{ℕ, zero, suc, _+_, _≤_, _<_}
 use native.Mathlib.Omega.{arith}
 use mathlib.Core.Path.{_≡_, refl, ap, _∙_, sym, subst}
 use mathlib.Core.Logic.{_⊎_, inl, inr}
 use mathlib.Core.Bool.{Bool, true, false, _&&_, cond}
 use mathlib.Core.List.{List, [], _∷_, List·Permᴰ, Permᴰ·symm}
-use lib.Dec.{T, ltb, leb→le}
+use lib.Dec.{T, ltb}
 use lib.ListN.{length, take, drop, getD, length-append, length-drop, length-replicate}
 use lib.Seq.{length-take-le, take-at}
 use lib.Ieee.{Float}
@@ -14,16 +14,17 @@ use Rattle.number.specs.Ops.{dec}
 use Rattle.number.specs.Number.{aboutOf, finiteOf}
 use Rattle.board.specs.declared.Entry.{Entry}
 use Rattle.board.specs.declared.Board.{Board}
-use Rattle.board.specs.Rules.{keyOf, isBefore, near, holds, insert, answerOf}
+use Rattle.board.specs.Rules.{keyOf, isBefore, near, holds, used, insert, answerOf}
 use Rattle.board.specs.Board.{listing, withListing, emptyEntry, emptyBoard, answered, given, newOf, withEntry, enterOf, placed, shots, placeOf}
 use Rattle.board.specs.Words.{All, Sorted, RestFirst, Distinct, sort, Near, after, kept, accepted}
-use Rattle.board.specs.Sorting.{insert-length, sort-permutes, sort-sorts, all-map, all-perm, distinct-perm}
+use Rattle.board.specs.Sorting.{insert-length, length-perm, sort-permutes, sort-sorts, all-map, all-perm, distinct-perm}
 use Rattle.board.specs.Keys.{Finite, wider, key-finite, key-order, sorted-rest-first}
-use Rattle.board.specs.Tests.{Tested, far, repeated, full, taken, tested, is-near, near-is, held-not}
+use Rattle.board.specs.Tests.{Tested, no-bay, far, repeated, full, taken, tested, is-near, near-is, held-not}
+use Rattle.board.specs.Bays.{InBay, used-perm, bays-fit, one-more}
 
 -- ---- one call
 
--- 01's numbers of each call: 0 or 9; 0, 10, 25 or 24; 0 or 26
+-- the numbers of each call: 0 or 9; 0, 31, 10, 25 or 24; 0 or 26
 pub new-answers : (px pz : Float) → (newOf px pz .answer ≡ 0) ⊎ (newOf px pz .answer ≡ 9)
 unfolding newOf
 new-answers px pz = go (aboutOf (dec 100000 1) px && aboutOf (dec 100000 1) pz)
@@ -32,15 +33,16 @@ new-answers px pz = go (aboutOf (dec 100000 1) px && aboutOf (dec 100000 1) pz)
     go true = inl refl
     go false = inr refl
 
-pub enter-answers : (b : Board) (e : Entry) → let n = enterOf b e .answer in (n ≡ 0) ⊎ ((n ≡ 10) ⊎ ((n ≡ 25) ⊎ (n ≡ 24)))
+pub enter-answers : (b : Board) (e : Entry) → let n = enterOf b e .answer in (n ≡ 0) ⊎ ((n ≡ 31) ⊎ ((n ≡ 10) ⊎ ((n ≡ 25) ⊎ (n ≡ 24))))
 unfolding enterOf
 enter-answers b e = go (tested (listing b) e)
   where
-    go : {n : ℕ} → Tested (listing b) e n → let m = given b e n .answer in (m ≡ 0) ⊎ ((m ≡ 10) ⊎ ((m ≡ 25) ⊎ (m ≡ 24)))
-    go (taken p q r) = inl refl
-    go (far p) = inr (inl refl)
-    go (repeated p q) = inr (inr (inl refl))
-    go (full p q r) = inr (inr (inr refl))
+    go : {n : ℕ} → Tested (listing b) e n → let m = given b e n .answer in (m ≡ 0) ⊎ ((m ≡ 31) ⊎ ((m ≡ 10) ⊎ ((m ≡ 25) ⊎ (m ≡ 24))))
+    go (taken p q r s t) = inl refl
+    go (no-bay p) = inr (inl refl)
+    go (far p q) = inr (inr (inl refl))
+    go (repeated p q) = inr (inr (inr (inl refl)))
+    go (full j p q) = inr (inr (inr (inr refl)))
 
 pub place-answers : (b : Board) (i : ℕ) → (placeOf b i .answer ≡ 0) ⊎ (placeOf b i .answer ≡ 26)
 unfolding placeOf
@@ -65,21 +67,24 @@ unfolding enterOf
 never-10 b e h = go (tested (listing b) e)
   where
     go : {n : ℕ} → Tested (listing b) e n → given b e n .answer ≡ 10 → ⊥
-    go (far p) k = p (near-is e h)
+    go (no-bay p) k = omega arith
+    go (far p q) k = q (near-is e h)
     go (repeated p q) k = omega arith
-    go (full p q r) k = omega arith
-    go (taken p q r) k = omega arith
+    go (full i p q) k = omega arith
+    go (taken p q r s t) k = omega arith
 
--- such an entry under a number that is not on the board yet is taken where there is room
-pub is-taken : (b : Board) (e : Entry) → Near e → holds (e .shot) (listing b) ≡ false → length (listing b) < 256 → enterOf b e .answer ≡ 0
+-- such an entry under a number that is not on the board yet is taken where its bay has entries left and the board a place
+pub is-taken : (b : Board) (e : Entry) → InBay e → Near e → holds (e .shot) (listing b) ≡ false → used (e .bay) (listing b) < 32
+    → length (listing b) < 256 → enterOf b e .answer ≡ 0
 unfolding enterOf
-is-taken b e h i j = go (tested (listing b) e)
+is-taken b e k h i u j = go (tested (listing b) e)
   where
     go : {n : ℕ} → Tested (listing b) e n → given b e n .answer ≡ 0
-    go (far p) = absurd (p (near-is e h))
+    go (no-bay p) = absurd (omega arith)
+    go (far p q) = absurd (q (near-is e h))
     go (repeated p q) = absurd (subst T (sym q ∙ i) tt)
-    go (full p q r) = absurd (let m = leb→le 256 (length (listing b)) r in omega arith)
-    go (taken p q r) = refl
+    go (full o p q) = absurd (q u j)
+    go (taken p q r s t) = refl
 
 -- ---- the calls, one after another
 
@@ -109,14 +114,20 @@ pub record Made (px pz : Float) (b : Board) (l : List Entry) : Type 0 where
   pub sorted : listing b ≡ sort (isBefore px pz) l
   pub near : All Near l
   pub distinct : Distinct l
+  pub bays : All InBay l
+  pub share : (k : ℕ) → used k l ≤ 32
+
+used-listed : {px pz : Float} {b : Board} {l : List Entry} (k : ℕ) → Made px pz b l → used k (listing b) ≡ used k l
+used-listed {px} {pz} {b} {l} k m = ap (used k) (m .sorted) ∙ used-perm k (sort-permutes (isBefore px pz) l)
 
 made-entry : (px pz : Float) (b : Board) (l : List Entry) (e : Entry) {n : ℕ} → Made px pz b l → Tested (listing b) e n
     → Made px pz (given b e n .board) (kept (given b e n .answer) e l)
 unfolding withEntry withListing sort All Distinct
-made-entry px pz b l e m (far p) = m
+made-entry px pz b l e m (no-bay p) = m
+made-entry px pz b l e m (far p q) = m
 made-entry px pz b l e m (repeated p q) = m
-made-entry px pz b l e m (full p q r) = m
-made-entry px pz b l e m (taken p q r) =
+made-entry px pz b l e m (full k p q) = m
+made-entry px pz b l e m (taken k p q u r) =
     record {
       sound = with-sound b (m .sound) e r;
       pin-x = m .pin-x;
@@ -128,6 +139,8 @@ made-entry px pz b l e m (taken p q r) =
             (subst (All (λ (f : Entry). e .shot ≡ f .shot → ⊥)) (m .sorted) (held-not (e .shot) (listing b) q)),
         m .distinct,
       );
+      bays = (k, m .bays);
+      share = one-more e l (subst (λ (i : ℕ). i < 32) (used-listed (e .bay) m) u) (m .share);
     }
 
 pub made-calls : (px pz : Float) (b : Board) (calls : List Entry) (l : List Entry) → Made px pz b l → Made px pz (after b calls) (accepted b calls l)
@@ -136,7 +149,7 @@ made-calls px pz b [] l m = m
 made-calls px pz b (e ∷ calls) l m = made-calls px pz (enterOf b e .board) calls _ (made-entry px pz b l e m (tested (listing b) e))
 
 made-new : (px pz : Float) → Made px pz (emptyBoard px pz) []
-unfolding sort All Distinct
+unfolding sort All Distinct used
 made-new px pz =
     record {
       sound = record { places = length-replicate {A = Entry} 256 emptyEntry; most = omega arith };
@@ -145,6 +158,8 @@ made-new px pz =
       sorted = refl;
       near = tt;
       distinct = tt;
+      bays = tt;
+      share = λ k. omega arith;
     }
 
 -- ---- for every list of calls from a new board
@@ -168,6 +183,41 @@ module _ (px pz : Float) (calls : List Entry) where
   -- no shot number stands twice on it
   pub listing-distinct : Distinct (listing board)
   listing-distinct = distinct-perm (Permᴰ·symm listing-permutes) (made .distinct)
+
+  -- 02, paper 6: no bay has more than 32, so the board never needs more than its 256 places: a bay with entries left finds one
+  pub bay-share : (k : ℕ) → used k entries ≤ 32
+  bay-share = made .share
+
+  pub has-room : (k : ℕ) → k ≤ 7 → used k entries < 32 → length (listing board) < 256
+  has-room k h u = rw (length-perm listing-permutes) (bays-fit entries (made .bays) (made .share) k h u)
+
+  -- "a bay with entries left is never turned back by 24"
+  pub never-24 : (e : Entry) → used (e .bay) entries < 32 → enterOf board e .answer ≡ 24 → ⊥
+  unfolding enterOf
+  never-24 e u = go (tested (listing board) e)
+    where
+      go : {n : ℕ} → Tested (listing board) e n → given board e n .answer ≡ 24 → ⊥
+      go (no-bay p) k = omega arith
+      go (far p q) k = omega arith
+      go (repeated p q) k = omega arith
+      go (full i p q) k = q (rw (used-listed (e .bay) made) u) (has-room (e .bay) i u)
+      go (taken p q r s t) k = omega arith
+
+  -- under a new number it is taken
+  pub made-taken : (e : Entry) → Near e → InBay e → holds (e .shot) (listing board) ≡ false → used (e .bay) entries < 32 → enterOf board e .answer ≡ 0
+  made-taken e h k i u = is-taken board e k h i (rw (used-listed (e .bay) made) u) (has-room (e .bay) k u)
+
+  -- and one that has used its 32 always is turned back, where 31, 10 and 25 do not come first
+  pub always-24 : (e : Entry) → InBay e → Near e → holds (e .shot) (listing board) ≡ false → 32 ≤ used (e .bay) entries → enterOf board e .answer ≡ 24
+  unfolding enterOf
+  always-24 e k h i u = go (tested (listing board) e)
+    where
+      go : {n : ℕ} → Tested (listing board) e n → given board e n .answer ≡ 24
+      go (no-bay p) = absurd (omega arith)
+      go (far p q) = absurd (q (near-is e h))
+      go (repeated p q) = absurd (subst T (sym q ∙ i) tt)
+      go (full j p q) = refl
+      go (taken p q r s t) = absurd (omega (arith, used-listed (e .bay) made))
 
   -- it is sorted by the stated order, and every key on it is a finite number
   module _ (i : T (aboutOf (dec 100000 1) px)) (j : T (aboutOf (dec 100000 1) pz)) where

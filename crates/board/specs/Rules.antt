@@ -1,6 +1,6 @@
--- Definitions. The board's rules on the list of its entries (01, "Lists and the rest of the shop"; 02, paper 2; numbers 10, 25, 24): the order of a listing,
--- by which number an entry is turned back, and where an accepted one goes.
-use Prim.Native.Nat.{ℕ}
+-- Definitions. The board's rules on the list of its entries (01, "Lists and the rest of the shop"; 02, papers 2 and 6; numbers 31, 10, 25, 24): the order of a
+-- listing, by which number an entry is turned back, and where an accepted one goes.
+use Prim.Native.Nat.{ℕ, _+_}
 use mathlib.Core.Bool.{Bool, true, false, not, _&&_, _||_, cond}
 use mathlib.Core.List.{List, [], _∷_}
 use lib.Dec.{leb, ltb, eqb}
@@ -59,9 +59,20 @@ unfoldable pub holds : ℕ → List Entry → Bool
 holds n [] = false
 holds n (e ∷ l) = eqb (e .shot) n || holds n l
 
--- 10, then "25 shot number already on the board; then 24 board holds 256"; else 0
+-- the entries of a bay: "each may enter 32 shots, counted for itself"
+unfoldable pub one : ℕ → Entry → ℕ
+one k e = cond (eqb (e .bay) k) 1 0
+
+unfoldable pub used : ℕ → List Entry → ℕ
+used k [] = 0
+used k (e ∷ l) = one k e + used k l
+
+-- 02, paper 6: "31 for a bay above 7, tested before 10"; 01: 10, then 25; "24 now means that this bay has used its 32"; else 0. The array's 256 places
+-- suffice for eight bays (`has-room`); a board that no calls made may have none left, and then 24 is the answer too
 unfoldable pub answerOf : List Entry → Entry → ℕ
-answerOf l e = cond (not (near e)) 10 (cond (holds (e .shot) l) 25 (cond (leb 256 (length l)) 24 0))
+answerOf l e =
+    cond (ltb 7 (e .bay)) 31
+    (cond (not (near e)) 10 (cond (holds (e .shot) l) 25 (cond (leb 32 (used (e .bay) l) || leb 256 (length l)) 24 0)))
 
 -- e put in before the first entry that comes after it
 unfoldable pub insert : (Entry → Bool) → Entry → List Entry → List Entry

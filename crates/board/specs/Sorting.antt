@@ -40,6 +40,12 @@ insert-length q e (f ∷ l) = go (q f) (insert-length q e l)
     go true h = refl
     go false h = ap suc h
 
+pub length-perm : {l m : List Entry} → List·Permᴰ l m → length l ≡ length m
+length-perm List·Permᴰ·nil = refl
+length-perm (List·Permᴰ·cons e d) = ap suc (length-perm d)
+length-perm (List·Permᴰ·swap e f) = refl
+length-perm (List·Permᴰ·trans d e) = length-perm d ∙ length-perm e
+
 -- ---- of each entry
 module _ (P : Entry → Type 0) where
   pub all-insert : (q : Entry → Bool) (e : Entry) (l : List Entry) → P e → All P l → All P (insert q e l)

@@ -1,35 +1,40 @@
 -- Lemmas. By which test an entry is answered: every statement about an answer goes by these cases.
-use Prim.Native.Nat.{ℕ, _<_}
+use Prim.Native.Nat.{ℕ, _≤_, _<_}
+use native.Mathlib.Omega.{arith}
 use mathlib.Core.Path.{_≡_, refl, sym, subst}
 use mathlib.Core.Bool.{Bool, true, false, not, _&&_, _||_, cond}
 use mathlib.Core.List.{List, [], _∷_}
-use lib.Dec.{T, leb, eqb, nleb→lt}
+use lib.Dec.{T, leb, ltb, eqb}
 use lib.ListN.{length}
-use borrow.Author.Tests.{eqb-false}
+use borrow.Author.Tests.{ltb-true, ltb-false, leb-true, leb-false, eqb-false}
 use lib.Ieee.Fits.{and-l, and-r}
 use Rattle.number.specs.Ops.{dec}
 use Rattle.number.specs.Number.{aboutOf}
 use Rattle.board.specs.declared.Entry.{Entry}
-use Rattle.board.specs.Rules.{near, holds, answerOf}
+use Rattle.board.specs.Rules.{near, holds, used, answerOf}
 use Rattle.board.specs.Words.{All, Near}
 
 pub data Tested (l : List Entry) (e : Entry) : ℕ → Type 0 where
-  far : (T (near e) → ⊥) → Tested l e 10
+  no-bay : 7 < e .bay → Tested l e 31
+  far : e .bay ≤ 7 → (T (near e) → ⊥) → Tested l e 10
   repeated : T (near e) → holds (e .shot) l ≡ true → Tested l e 25
-  full : T (near e) → holds (e .shot) l ≡ false → T (leb 256 (length l)) → Tested l e 24
-  taken : T (near e) → holds (e .shot) l ≡ false → length l < 256 → Tested l e 0
+  full : e .bay ≤ 7 → T (near e) → (used (e .bay) l < 32 → length l < 256 → ⊥) → Tested l e 24
+  taken : e .bay ≤ 7 → T (near e) → holds (e .shot) l ≡ false → used (e .bay) l < 32 → length l < 256 → Tested l e 0
 
 pub tested : (l : List Entry) (e : Entry) → Tested l e (answerOf l e)
 unfolding answerOf
-tested l e = go (near e) (λ t. t) (λ t. t) (holds (e .shot) l) refl (leb 256 (length l)) (λ t. t) (nleb→lt 256 (length l))
+tested l e = go (ltb 7 (e .bay)) refl (near e) (λ t. t) (λ t. t) (holds (e .shot) l) refl (leb 32 (used (e .bay) l)) refl (leb 256 (length l)) refl
   where
-    go : (n : Bool) → (T n → T (near e)) → (T (near e) → T n) → (h : Bool) → holds (e .shot) l ≡ h → (f : Bool) → (T f → T (leb 256 (length l)))
-        → (T (not f) → length l < 256)
-        → Tested l e (cond (not n) 10 (cond h 25 (cond f 24 0)))
-    go false i j h p f q r = far j
-    go true i j true p f q r = repeated (i tt) p
-    go true i j false p true q r = full (i tt) p (q tt)
-    go true i j false p false q r = taken (i tt) p (r tt)
+    go : (k : Bool) → ltb 7 (e .bay) ≡ k → (n : Bool) → (T n → T (near e)) → (T (near e) → T n) → (h : Bool) → holds (e .shot) l ≡ h
+        → (u : Bool) → leb 32 (used (e .bay) l) ≡ u → (f : Bool) → leb 256 (length l) ≡ f
+        → Tested l e (cond k 31 (cond (not n) 10 (cond h 25 (cond (u || f) 24 0))))
+    go true k n i j h p u q f r = no-bay (ltb-true 7 (e .bay) k)
+    go false k false i j h p u q f r = far (ltb-false 7 (e .bay) k) j
+    go false k true i j true p u q f r = repeated (i tt) p
+    go false k true i j false p true q f r = full (ltb-false 7 (e .bay) k) (i tt) (λ a b. let c = leb-true 32 (used (e .bay) l) q in omega arith)
+    go false k true i j false p false q true r = full (ltb-false 7 (e .bay) k) (i tt) (λ a b. let c = leb-true 256 (length l) r in omega arith)
+    go false k true i j false p false q false r =
+        taken (ltb-false 7 (e .bay) k) (i tt) p (leb-false 32 (used (e .bay) l) q) (leb-false 256 (length l) r)
 
 pub is-near : (e : Entry) → T (near e) → Near e
 unfolding near

@@ -3,14 +3,15 @@ ghost use mathlib.Core.Path.{_≡_};
 ghost use Prim.Native.Nat.{_+_, _≤_, _<_};
 ghost use mathlib.Core.List.{_++_};
 ghost use lib.ListN.{length, take, drop};
-ghost use Rattle.board.specs.Rules.{keyOf, moving, isBefore, insert, holds, answerOf};
+ghost use Rattle.board.specs.Rules.{keyOf, moving, isBefore, insert, holds, one, used, answerOf};
 ghost use Rattle.board.specs.Board.{listing, newOf, emptyBoard, withEntry, enterOf, placeOf};
 ghost use Rattle.board.specs.Inner.{Shows, placeIn, insertedAt};
 use state::Termination;
 
-// An entry: a shot's number, how its run ended, and where its ball was then.
+// An entry: a shot's number and its bay, how its run ended, and where its ball was then.
 pub struct Entry {
     pub shot: u32,
+    pub bay: u32,
     pub termination: Termination,
     pub x: f64,
     pub z: f64,
@@ -99,16 +100,41 @@ fn holds_shot(entries: [Entry; 256], count: usize, shot: u32) -> bool
     false
 }
 
-// Of the first `count` entries: 10 for a spot beyond 1,000,000, 25 for a shot number that is there already, 24 for a full board.
+// 1 for an entry of the bay, else 0.
+fn one(e: Entry, bay: u32) -> usize
+    ensures { λ r. ⌜ r ≡ one bay e ⌝ }
+{
+    if e.bay == bay { 1 } else { 0 }
+}
+
+// How many of the first `count` entries are the bay's.
+fn used(entries: [Entry; 256], count: usize, bay: u32) -> usize
+    requires { ⌜ count ≤ 256 ⌝ }
+    ensures { λ r. ⌜ r ≡ used bay (take count entries) ⌝ }
+{
+    let mut n = 0usize;
+    let mut i = 0usize;
+    while i < count {
+        n += one(entries[i], bay);
+        i += 1;
+    }
+    n
+}
+
+// Of the first `count` entries: 31 for a bay above 7, 10 for a spot beyond 1,000,000, 25 for a shot number that is there already, 24 for a bay that has
+// used its 32 (or a board with no place left, which no calls make).
 fn answer_of(entries: [Entry; 256], count: usize, e: Entry) -> u32
     requires { ⌜ count ≤ 256 ⌝ }
     ensures { λ r. ⌜ r ≡ answerOf (take count entries) e ⌝ }
 {
+    if 7 < e.bay {
+        return 31;
+    }
     if number::within(-1000000.0, 1000000.0, e.x) & number::within(-1000000.0, 1000000.0, e.z) {
         if holds_shot(entries, count, e.shot) {
             return 25;
         }
-        if 256 <= count {
+        if (32 <= used(entries, count, e.bay)) | (256 <= count) {
             return 24;
         }
         return 0;
@@ -164,6 +190,7 @@ fn empty(pin_x: f64, pin_z: f64) -> Board
         count: 0,
         entries: [Entry {
             shot: 0,
+            bay: 0,
             termination: Termination::Nothing,
             x: 0.0,
             z: 0.0,

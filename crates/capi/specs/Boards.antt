@@ -24,13 +24,14 @@ entered e l = cond (eqb (e .answer) 0) (door 0 (boardFields (e .board))) (door (
 
 -- what dimple_board_enter is handed beside the board
 pub record Sent : Type 0 where
+  pub bay : ℕ
   pub shot : ℕ
   pub termination : ℕ
   pub x : Float
   pub z : Float
 
 abbrev pub sentEntry : Sent → Entry
-sentEntry s = record { shot = s .shot; termination = terminationOf (s .termination); x = s .x; z = s .z }
+sentEntry s = record { shot = s .shot; bay = s .bay; termination = terminationOf (s .termination); x = s .x; z = s .z }
 
 -- the termination is one of 1 to 3
 unfoldable pub isEnd : ℕ → Bool
@@ -40,7 +41,7 @@ isEnd n = leb 1 n && leb n 3
 unfoldable pub sentOf : Board → Sent → Entered
 sentOf b s = cond (isEnd (s .termination)) (enterOf b (sentEntry s)) (answered 102 b)
 
--- dimple_board_enter: 100, 101, 102, then 0, 10, 25, 24
+-- dimple_board_enter: 100, 101, 102, then 0, 31, 10, 25, 24
 unfoldable pub enterDoorOf : List Float → Sent → Door
 enterDoorOf l s = cond (eqb (length l) boardLength) (cond (boardOk l) (entered (sentOf (boardAt l) s) l) (door 101 l)) (door 100 l)
 

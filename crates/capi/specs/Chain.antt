@@ -50,12 +50,13 @@ module _ (b : Board) (h : Held b) where
   unfolding sentOf
   enter-never-101 s q = go (isEnd (s .termination)) (enter-answers b (sentEntry s)) (ap (λ (d : Door). d .answer) (sym (enter-door s)) ∙ q)
     where
-      go : (t : Bool) → let n = enterOf b (sentEntry s) .answer in (n ≡ 0) ⊎ ((n ≡ 10) ⊎ ((n ≡ 25) ⊎ (n ≡ 24)))
+      go : (t : Bool) → let n = enterOf b (sentEntry s) .answer in (n ≡ 0) ⊎ ((n ≡ 31) ⊎ ((n ≡ 10) ⊎ ((n ≡ 25) ⊎ (n ≡ 24))))
           → cond t (enterOf b (sentEntry s)) (answered 102 b) .answer ≡ 101 → ⊥
       go true (inl p) k = omega arith
       go true (inr (inl p)) k = omega arith
       go true (inr (inr (inl p))) k = omega arith
-      go true (inr (inr (inr p))) k = omega arith
+      go true (inr (inr (inr (inl p)))) k = omega arith
+      go true (inr (inr (inr (inr p)))) k = omega arith
       go false p k = omega arith
 
   pub place-never-101 : (i : ℕ) (w : Float) → placeDoorOf (boardFields b) i (w ∷ []) .answer ≡ 101 → ⊥

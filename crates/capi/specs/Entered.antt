@@ -1,10 +1,9 @@
 -- Statements. Every run with answer 0 may be entered on a board (01, "Lists and the rest of the shop"): its final spot never meets 10. Assumes nothing.
-use Prim.Native.Nat.{ℕ, _<_}
+use Prim.Native.Nat.{ℕ, _≤_, _<_}
 use mathlib.Core.Path.{_≡_, refl, sym, subst}
 use mathlib.Core.Bool.{false, _&&_}
-use mathlib.Core.List.{List}
+use mathlib.Core.List.{List, []}
 use lib.Dec.{T}
-use lib.ListN.{length}
 use lib.Ieee.{Float}
 use lib.Ieee.Fits.{and-l, and-r}
 use Rattle.number.specs.Ops.{dec}
@@ -20,10 +19,10 @@ use Rattle.promises.specs.Promises.{answered, finished}
 use Rattle.ground.specs.declared.Settled.{Settled}
 use Rattle.board.specs.declared.Board.{Board}
 use Rattle.board.specs.declared.Entry.{Entry}
-use Rattle.board.specs.Rules.{holds}
-use Rattle.board.specs.Board.{listing, enterOf}
-use Rattle.board.specs.Words.{Near}
-use Rattle.board.specs.Listing.{never-10, is-taken}
+use Rattle.board.specs.Rules.{holds, used}
+use Rattle.board.specs.Board.{listing, emptyBoard, enterOf}
+use Rattle.board.specs.Words.{Near, after, accepted}
+use Rattle.board.specs.Listing.{never-10, made-taken}
 use Rattle.layout.specs.Layout.{terminationOf}
 use Rattle.capi.specs.Boards.{Sent, isEnd, sentOf}
 
@@ -42,31 +41,33 @@ module _ (sheet : List ℕ) (shot : Shot) (cs ps : List Float) where
   abbrev run : Settled
   run = settleOf sheet shot cs ps .settled
 
-  -- the entry of the run under a shot number
-  abbrev pub entryOf : ℕ → Entry
-  entryOf n = record { shot = n; termination = run .termination; x = run .rest .pos .x; z = run .rest .pos .z }
+  -- the entry of the run under a shot number, for a bay
+  abbrev pub entryOf : ℕ → ℕ → Entry
+  entryOf k n = record { shot = n; bay = k; termination = run .termination; x = run .rest .pos .x; z = run .rest .pos .z }
 
-  run-near : run .answer ≡ 0 → (n : ℕ) → Near (entryOf n)
-  run-near h n =
+  run-near : run .answer ≡ 0 → (k n : ℕ) → Near (entryOf k n)
+  run-near h k n =
       let l = settle-leaves sheet shot cs ps (answered sheet shot cs ps h) in
       spot-about (run .rest) (subst T (sym (l .rest)) tt)
 
-  -- 01: "Every run with answer 0 may be entered", whatever the board and the shot number
-  pub may-be-entered : run .answer ≡ 0 → (b : Board) (n : ℕ) → enterOf b (entryOf n) .answer ≡ 10 → ⊥
-  may-be-entered h b n = never-10 b (entryOf n) (run-near h n)
+  -- 01: "Every run with answer 0 may be entered", whatever the board, the bay and the shot number
+  pub may-be-entered : run .answer ≡ 0 → (b : Board) (k n : ℕ) → enterOf b (entryOf k n) .answer ≡ 10 → ⊥
+  may-be-entered h b k n = never-10 b (entryOf k n) (run-near h k n)
 
-  -- and under a new number, on a board with room, it is
-  pub is-entered : run .answer ≡ 0 → (b : Board) (n : ℕ) → holds n (listing b) ≡ false → length (listing b) < 256 → enterOf b (entryOf n) .answer ≡ 0
-  is-entered h b n = is-taken b (entryOf n) (run-near h n)
+  -- and under a new number, on a board that calls made from a new one, for a bay with entries left, it is
+  pub is-entered : run .answer ≡ 0 → (px pz : Float) (calls : List Entry) (k n : ℕ) → k ≤ 7
+      → holds n (listing (after (emptyBoard px pz) calls)) ≡ false → used k (accepted (emptyBoard px pz) calls []) < 32
+      → enterOf (after (emptyBoard px pz) calls) (entryOf k n) .answer ≡ 0
+  is-entered h px pz calls k n = made-taken px pz calls (entryOf k n) (run-near h k n)
 
   -- what dimple_board_enter is handed for the run: the numbers of its result
-  abbrev pub sentRun : ℕ → Sent
-  sentRun n = record { shot = n; termination = terminationNumber (run .termination); x = run .rest .pos .x; z = run .rest .pos .z }
+  abbrev pub sentRun : ℕ → ℕ → Sent
+  sentRun k n = record { bay = k; shot = n; termination = terminationNumber (run .termination); x = run .rest .pos .x; z = run .rest .pos .z }
 
   -- it takes them as that entry, and 102 never comes
-  pub sent-run : run .answer ≡ 0 → (b : Board) (n : ℕ) → sentOf b (sentRun n) ≡ enterOf b (entryOf n)
+  pub sent-run : run .answer ≡ 0 → (b : Board) (k n : ℕ) → sentOf b (sentRun k n) ≡ enterOf b (entryOf k n)
   unfolding sentOf isEnd terminationOf terminationNumber
-  sent-run h b n = go (run .termination) (finished sheet shot cs ps h)
+  sent-run h b k n = go (run .termination) (finished sheet shot cs ps h)
     where
       x : Float
       x = run .rest .pos .x
@@ -75,8 +76,9 @@ module _ (sheet : List ℕ) (shot : Shot) (cs ps : List Float) where
       z = run .rest .pos .z
 
       go : (t : Termination) → (t ≡ Nothing → ⊥)
-          → sentOf b (record { shot = n; termination = terminationNumber t; x = x; z = z }) ≡ enterOf b (record { shot = n; termination = t; x = x; z = z })
-      go Nothing k = absurd (k refl)
-      go Rest k = refl
-      go MaxTime k = refl
-      go MaxImpacts k = refl
+          → sentOf b (record { bay = k; shot = n; termination = terminationNumber t; x = x; z = z }) ≡ enterOf b
+          (record { shot = n; bay = k; termination = t; x = x; z = z })
+      go Nothing i = absurd (i refl)
+      go Rest i = refl
+      go MaxTime i = refl
+      go MaxImpacts i = refl

@@ -28,7 +28,8 @@ use Rattle.board.specs.Inner.{none}
 use Rattle.board.specs.Board.{listing, withListing, emptyEntry, emptyBoard, answered, given, newOf, withEntry, enterOf}
 use Rattle.board.specs.Words.{All, Near}
 use Rattle.board.specs.Sorting.{all-insert}
-use Rattle.board.specs.Tests.{Tested, far, repeated, full, taken, tested, is-near}
+use Rattle.board.specs.Bays.{InBay}
+use Rattle.board.specs.Tests.{Tested, no-bay, far, repeated, full, taken, tested, is-near}
 use Rattle.board.specs.Listing.{Sound, with-listing, with-sound}
 use Rattle.layout.specs.Layout.{width, start, boardLength, natOf, isWhole, numberOf, terminationOf, leastAt, entryOk, entryAt}
 use Rattle.layout.specs.Layout.{entriesOk, entriesAt, boardOk, boardAt, entryFields, entriesFields, boardFields}
@@ -117,20 +118,23 @@ module _ (b : Board) where
     shot-at : doubleAt (boardFields b) (start i) ≡ wholeOf (getD (b .entries) i none .shot)
     shot-at = double-at i 0 (start i) h (omega arith) (omega arith)
 
-    termination-at : doubleAt (boardFields b) (start i + 1) ≡ wholeOf (numberOf (getD (b .entries) i none .termination))
-    termination-at = double-at i 1 (start i + 1) h (omega arith) (omega arith)
+    bay-at : doubleAt (boardFields b) (start i + 1) ≡ wholeOf (getD (b .entries) i none .bay)
+    bay-at = double-at i 1 (start i + 1) h (omega arith) (omega arith)
 
-    x-at : doubleAt (boardFields b) (start i + 2) ≡ getD (b .entries) i none .x
-    x-at = double-at i 2 (start i + 2) h (omega arith) (omega arith)
+    termination-at : doubleAt (boardFields b) (start i + 2) ≡ wholeOf (numberOf (getD (b .entries) i none .termination))
+    termination-at = double-at i 2 (start i + 2) h (omega arith) (omega arith)
 
-    z-at : doubleAt (boardFields b) (start i + 3) ≡ getD (b .entries) i none .z
-    z-at = double-at i 3 (start i + 3) h (omega arith) (omega arith)
+    x-at : doubleAt (boardFields b) (start i + 3) ≡ getD (b .entries) i none .x
+    x-at = double-at i 3 (start i + 3) h (omega arith) (omega arith)
+
+    z-at : doubleAt (boardFields b) (start i + 4) ≡ getD (b .entries) i none .z
+    z-at = double-at i 4 (start i + 4) h (omega arith) (omega arith)
 
 -- ---- boards
 
--- a shot number that a u32 holds, and a spot that passed test 10
+-- a shot number that a u32 holds, a bay that passed test 31, and a spot that passed test 10
 abbrev pub Kept : Entry → Type 0
-Kept e = (e .shot ≤ 4294967295) × Near e
+Kept e = (e .shot ≤ 4294967295) × (InBay e × Near e)
 
 -- a run that ended: 1 to 3 is its termination's number
 abbrev pub Ended : Termination → Type 0
@@ -172,9 +176,20 @@ module _ (b : Board) (h : Held b) where
   entry-back : (i : ℕ) → i < 256 → entryAt (boardFields b) (start i) ≡ getD (b .entries) i none
   unfolding entryAt
   entry-back i l =
-      let t = getD (b .entries) i none .termination in
-      let m = number-most t in
-      rw (shot-at b i l, termination-at b i l, x-at b i l, z-at b i l, nat-whole _ (kept-at i l .0), nat-whole (numberOf t) (omega arith), number-back t)
+      let e = getD (b .entries) i none in
+      let m = number-most (e .termination) in
+      let k = kept-at i l in
+      rw (
+        shot-at b i l,
+        bay-at b i l,
+        termination-at b i l,
+        x-at b i l,
+        z-at b i l,
+        nat-whole (e .shot) (k .0),
+        nat-whole (e .bay) (omega (arith, k .1 .0)),
+        nat-whole (numberOf (e .termination)) (omega arith),
+        number-back (e .termination),
+      )
 
   least : (i : ℕ) → leastAt (b .count) i ≤ numberOf (getD (b .entries) i none .termination)
   unfolding leastAt
@@ -197,13 +212,15 @@ module _ (b : Board) (h : Held b) where
       let m = number-most (e .termination) in
       rw (
         shot-at b i l,
+        bay-at b i l,
         termination-at b i l,
         x-at b i l,
         z-at b i l,
         whole-is-whole (e .shot) (k .0) 0 4294967295 (omega arith) (k .0),
+        whole-is-whole (e .bay) (omega (arith, k .1 .0)) 0 7 (omega arith) (k .1 .0),
         whole-is-whole (numberOf (e .termination)) (omega arith) (leastAt (b .count) i) 3 (least i) m,
-        is-true (aboutOf (dec 1000000 1) (e .x)) (k .1 .0),
-        is-true (aboutOf (dec 1000000 1) (e .z)) (k .1 .1),
+        is-true (aboutOf (dec 1000000 1) (e .x)) (k .1 .1 .0),
+        is-true (aboutOf (dec 1000000 1) (e .z)) (k .1 .1 .1),
       )
 
   entries-back : (n : ℕ) → n ≤ 256 → entriesAt (boardFields b) n ≡ take n (b .entries)
@@ -265,7 +282,7 @@ module _ (P : Entry → Type 0) where
 
 empty-kept : Kept emptyEntry
 unfolding round neg le lt eq withinOf
-empty-kept = (omega arith, (tt, tt))
+empty-kept = (omega arith, (omega arith, (tt, tt)))
 
 empty-held : (px pz : Float) → T (aboutOf (dec 100000 1) px) → T (aboutOf (dec 100000 1) pz) → Held (emptyBoard px pz)
 unfolding All
@@ -313,7 +330,8 @@ unfolding enterOf
 enter-held b e m t h = go (tested (listing b) e)
   where
     go : {n : ℕ} → Tested (listing b) e n → Held (given b e n .board)
-    go (far p) = h
+    go (no-bay p) = h
+    go (far p q) = h
     go (repeated p q) = h
-    go (full p q r) = h
-    go (taken p q r) = with-held b e r (m, is-near e p) t h
+    go (full k p q) = h
+    go (taken k p q u r) = with-held b e r (m, (k, is-near e p)) t h

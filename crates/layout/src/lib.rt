@@ -1,4 +1,4 @@
-// A board as doubles: the pin's x and z, the count, then 256 entries, each shot, termination, x, z.
+// A board as doubles: the pin's x and z, the count, then 256 entries, each shot, bay, termination, x, z.
 ghost use mathlib.Core.Path.{_≡_};
 ghost use Prim.Native.Nat.{_+_, _*_, _≤_};
 ghost use mathlib.Core.List.{_++_};
@@ -11,9 +11,9 @@ use board::Entry;
 use state::Termination;
 
 // The doubles of an entry.
-const WIDTH: usize = 4;
+const WIDTH: usize = 5;
 // The doubles of a board.
-pub const BOARD_LENGTH: usize = 1027;
+pub const BOARD_LENGTH: usize = 1283;
 
 // A double without its fraction, or 0 where that is no u32.
 fn nat_of(x: f64) -> u32
@@ -84,9 +84,10 @@ fn entry_ok(l: &[f64], least: u32, o: usize) -> bool
     ensures { λ r. ⌜ r ≡ entryOk (now (l .entry)) least o ⌝ }
 {
     is_whole(l[o], 0, 4294967295)
-        & (is_whole(l[o + 1], least, 3)
-            & (number::within(-1000000.0, 1000000.0, l[o + 2])
-                & number::within(-1000000.0, 1000000.0, l[o + 3])))
+        & (is_whole(l[o + 1], 0, 7)
+            & (is_whole(l[o + 2], least, 3)
+                & (number::within(-1000000.0, 1000000.0, l[o + 3])
+                    & number::within(-1000000.0, 1000000.0, l[o + 4]))))
 }
 
 fn entry_at(l: &[f64], o: usize) -> Entry
@@ -95,9 +96,10 @@ fn entry_at(l: &[f64], o: usize) -> Entry
 {
     Entry {
         shot: nat_of(l[o]),
-        termination: termination_of(nat_of(l[o + 1])),
-        x: l[o + 2],
-        z: l[o + 3],
+        bay: nat_of(l[o + 1]),
+        termination: termination_of(nat_of(l[o + 2])),
+        x: l[o + 3],
+        z: l[o + 4],
     }
 }
 
@@ -120,6 +122,7 @@ fn entries_at(l: &[f64]) -> [Entry; 256]
 {
     let mut out = [Entry {
         shot: 0,
+        bay: 0,
         termination: Termination::Nothing,
         x: 0.0,
         z: 0.0,
@@ -164,6 +167,7 @@ fn write_entry(out: &mut [f64], o: usize, e: Entry)
     let t = e.termination;
     let rec = [
         fields::whole(e.shot as u64),
+        fields::whole(e.bay as u64),
         fields::whole(termination_number(t) as u64),
         e.x,
         e.z,

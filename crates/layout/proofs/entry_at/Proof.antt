@@ -6,16 +6,24 @@ use Rattle.layout.proofs.entry_at.Tie as tie
 
 returns : tie.Need-returns
 unfolding entryAt
-returns c = rw (
-  c .before .before .termination-of .ensures,
-  c .before .before .before .nat-of2 .ensures,
-  c .before .before .before .before .before .nat-of .ensures,
-)
+returns c =
+    let at-nat-of3 = c .before .before .before in
+    let at-nat-of = at-nat-of3 .before .before .before .before in
+    rw (
+      c .before .before .termination-of .ensures,
+      at-nat-of3 .nat-of3 .ensures,
+      at-nat-of3 .before .before .nat-of2 .ensures,
+      at-nat-of .nat-of .ensures,
+    )
 
 pub entry-at-spec : {M : Type 1} → statement M
 entry-at-spec =
     tie.close
     (tie.spec
+    (λ c. search needs)
+    (λ c. search needs)
+    (λ c κs. search needs)
+    (λ c. search needs)
     (λ c. search needs)
     (λ c. search needs)
     (λ c κs. search needs)

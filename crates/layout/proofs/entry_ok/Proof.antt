@@ -7,17 +7,25 @@ use Rattle.layout.proofs.entry_ok.Tie as tie
 
 returns : tie.Need-returns
 unfolding entryOk ofBits round neg
-returns c = rw (
-  c .before .before .before .before .before .before .is-whole .ensures,
-  c .before .before .before .before .is-whole2 .ensures,
-  c .before .before .within .ensures,
-  c .within2 .ensures,
-)
+returns c =
+    let at-is-whole3 = c .before .before .before .before in
+    let at-is-whole = at-is-whole3 .before .before .before .before in
+    rw (
+      at-is-whole .is-whole .ensures,
+      at-is-whole3 .before .before .is-whole2 .ensures,
+      at-is-whole3 .is-whole3 .ensures,
+      c .before .before .within .ensures,
+      c .within2 .ensures,
+    )
 
 pub entry-ok-spec : {M : Type 1} → statement M
 entry-ok-spec =
     tie.close
     (tie.spec
+    (λ c. search needs)
+    (λ c. search needs)
+    (λ c κs. search needs)
+    (λ c. search needs)
     (λ c. search needs)
     (λ c. search needs)
     (λ c κs. search needs)

@@ -5,18 +5,22 @@ use Rattle.layout.proofs.write_entry.Tie as tie
 
 returns : tie.Need-returns
 returns c =
-    let at-whole2 = c .before .before .before .before .before in
+    let at-whole3 = c .before .before .before .before .before in
+    let at-whole = at-whole3 .before .before .before .before in
     rw (
       c .before .before .put .ensures,
-      at-whole2 .whole2 .ensures,
-      at-whole2 .before .termination-number .ensures,
-      at-whole2 .before .before .whole .ensures,
+      at-whole3 .whole3 .ensures,
+      at-whole3 .before .termination-number .ensures,
+      at-whole3 .before .before .whole2 .ensures,
+      at-whole .whole .ensures,
     )
 
 pub write-entry-spec : {M : Type 1} → statement M
 write-entry-spec =
     tie.close
     (tie.spec
+    (λ c. search needs)
+    (λ c κs. search needs)
     (λ c. search needs)
     (λ c κs. search needs)
     (λ c κs. search needs)
