@@ -33,19 +33,21 @@ uint32_t dimple_impact(const uint8_t *sheet, size_t sheet_len, const double *bal
 /* The height at a spot into height (1), or +0 with the number. 100 as above. */
 uint32_t dimple_height(const uint8_t *sheet, size_t sheet_len, double x, double z, double *height, size_t height_len);
 
-/* A board, 1283 doubles that the caller keeps: the pin's x and z, the count of entries, then 256 times shot number, bay, termination, x, z. The
- * doors alone write it.
+/* A board, 1539 doubles that the caller keeps: the pin's x and z, the count of entries, then 256 times shot number, bay, termination, contacts, x,
+ * z. The doors alone write it.
  * 100: a length is not the one named. 101: the doubles are no board (the pin is not within 100,000, the count is no whole number from 0 to 256, a
- * shot number is no whole number below 2^32, a bay is none of 0 to 7, a termination is none of 1 to 3, or 0 past the count, an x or z is not within
- * 1,000,000; a NaN is none of these). On 100 and 101 nothing is touched. */
+ * shot number or a count of contacts is no whole number below 2^32, a bay is none of 0 to 7, a termination is none of 1 to 3, or of 0 to 3 past
+ * the count, an x or z is not within 1,000,000; a NaN is none of these). On 100 and 101 nothing is touched. */
 
 /* An empty board with this pin. 9: the pin is beyond 100,000; the board is then empty, with pin 0. */
 uint32_t dimple_board_new(double pin_x, double pin_z, double *board, size_t board_len);
 
-/* One entry more, for a bay from 0 to 7. termination: 1 rest, 2 time, 3 impacts, as in a result. Those at rest are listed first, then by distance, then by the shot number.
+/* One entry more, for a bay from 0 to 7. termination: 1 rest, 2 time, 3 impacts, as in a result; contacts: the count of a result. Those at rest are
+ * listed first, then by distance, then by fewer contacts, then by the shot number.
  * 102: no such termination. 31: the bay is above 7. 10: x or z is beyond 1,000,000. 25: the shot number is on the board. 24: this bay has used its
  * 32 entries, whatever the others have. They are tested in this order, after 100 and 101, and on each the board is unchanged. */
-uint32_t dimple_board_enter(double *board, size_t board_len, uint32_t bay, uint32_t shot, uint32_t termination, double x, double z);
+uint32_t dimple_board_enter(double *board, size_t board_len, uint32_t bay, uint32_t shot, uint32_t termination, uint32_t contacts,
+                            double x, double z);
 
 /* The shot number at a place, from 0, into shot (1). 26: past the last entry, with shot number 0. */
 uint32_t dimple_board_place(const double *board, size_t board_len, uint64_t place, double *shot, size_t shot_len);

@@ -126,7 +126,7 @@ def _library():
     lib.dimple_impact.argtypes = [ctypes.c_char_p, size, doubles, size, doubles, size]
     lib.dimple_height.argtypes = [ctypes.c_char_p, size, ctypes.c_double, ctypes.c_double, doubles, size]
     lib.dimple_board_new.argtypes = [ctypes.c_double, ctypes.c_double, doubles, size]
-    lib.dimple_board_enter.argtypes = [doubles, size, ctypes.c_uint32, ctypes.c_uint32, ctypes.c_uint32, ctypes.c_double, ctypes.c_double]
+    lib.dimple_board_enter.argtypes = [doubles, size, *[ctypes.c_uint32] * 4, ctypes.c_double, ctypes.c_double]
     lib.dimple_board_place.argtypes = [doubles, size, ctypes.c_uint64, doubles, size]
     lib.dimple_shelf_new.argtypes = [doubles, size]
     lib.dimple_shelf_save.argtypes = [doubles, size, ctypes.c_char_p, size, doubles, size]
@@ -230,9 +230,10 @@ def on_published_ground(run, rectangle):
 
 
 class Board:
-    """Up to 32 shots of each of 8 bays: those at rest before those still moving, then least distance from the pin first, equal distances by the lower shot number."""
+    """Up to 32 shots of each of 8 bays: those at rest before those still moving, then least distance from the pin first, equal distances by
+    fewer contacts, then by the lower shot number."""
 
-    LENGTH = 1283
+    LENGTH = 1539
 
     def __init__(self, pin):
         self._buffer = _doubles(self.LENGTH)
@@ -249,7 +250,7 @@ class Board:
             raise ValueError(f"a run with answer {run.answer} is not to be entered")
         x, _, z = run.rest.pos
         number, ended = _whole(shot, 32, "the shot number"), TERMINATIONS.index(run.termination)
-        self._check(_call("dimple_board_enter", self._buffer, self.LENGTH, _whole(bay, 32, "the bay"), number, ended, x, z))
+        self._check(_call("dimple_board_enter", self._buffer, self.LENGTH, _whole(bay, 32, "the bay"), number, ended, len(run.contacts), x, z))
 
     def place(self, at):
         """The shot number at a place, from 0."""

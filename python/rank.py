@@ -11,7 +11,7 @@ shots = {
     105: Landing(vel=(float("nan"), -8.0, 0.5)),
     106: Landing(vel=(4.0, -6.0, 0.2), spin=(0.0, 0.0, 120.0)),
 }
-times = {106: Physics(max_time=1.5)}  # shot 106 is stopped near the pin while it still rolls
+times = {106: Physics(max_time=1.5)}  # shot 106 is stopped while it still moves
 board = Board(pin)
 for number, landing in shots.items():
     try:

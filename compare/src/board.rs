@@ -8,12 +8,12 @@ use std::cmp::Ordering;
 #[cfg(has_dimple_board_enter)]
 unsafe extern "C" {
     fn dimple_board_new(pin_x: f64, pin_z: f64, board: *mut f64, len: usize) -> u32;
-    fn dimple_board_enter(board: *mut f64, len: usize, bay: u32, shot: u32, termination: u32, x: f64, z: f64) -> u32;
+    fn dimple_board_enter(board: *mut f64, len: usize, bay: u32, shot: u32, termination: u32, contacts: u32, x: f64, z: f64) -> u32;
     fn dimple_board_place(board: *const f64, len: usize, place: u64, shot: *mut f64, shot_len: usize) -> u32;
 }
 
 /// The doubles of an entry and of a board.
-const WIDTH: usize = 5;
+const WIDTH: usize = 6;
 const LEN: usize = 3 + 256 * WIDTH;
 const GUARD: usize = 4;
 
@@ -22,20 +22,23 @@ struct Entry {
     shot: u32,
     bay: u32,
     termination: u32,
+    contacts: u32,
     x: f64,
     z: f64,
 }
 
-const EMPTY: Entry = Entry { shot: 0, bay: 0, termination: 0, x: 0.0, z: 0.0 };
+const EMPTY: Entry = Entry { shot: 0, bay: 0, termination: 0, contacts: 0, x: 0.0, z: 0.0 };
 
-/// 02, paper 2: rest first; 01: least key, then lower shot number.
+/// 02, paper 2: rest first; 01: least key; 02, paper 7: fewer contacts, then lower shot number.
 fn order(pin: (f64, f64), e: &Entry, f: &Entry) -> Ordering {
     let moving = |e: &Entry| e.termination != 1;
     let key = |e: &Entry| {
         let (dx, dz) = (e.x - pin.0, e.z - pin.1);
         dx * dx + dz * dz
     };
-    moving(e).cmp(&moving(f)).then(key(e).partial_cmp(&key(f)).expect("keys are numbers")).then(e.shot.cmp(&f.shot))
+    moving(e).cmp(&moving(f)).then(key(e).partial_cmp(&key(f)).expect("keys are numbers"))
+        .then(e.contacts.cmp(&f.contacts))
+        .then(e.shot.cmp(&f.shot))
 }
 
 fn near(x: f64, most: f64) -> bool {
@@ -63,7 +66,7 @@ impl Board {
         let mut all = vec![];
         for (i, d) in l[3..].chunks(WIDTH).enumerate() {
             let (shot, bay, termination) = (whole(d[0], 0, u32::MAX)?, whole(d[1], 0, 7)?, whole(d[2], u32::from(i < count), 3)?);
-            let e = Entry { shot, bay, termination, x: d[3], z: d[4] };
+            let e = Entry { shot, bay, termination, contacts: whole(d[3], 0, u32::MAX)?, x: d[4], z: d[5] };
             all.push((near(e.x, 1e6) && near(e.z, 1e6)).then_some(e)?);
         }
         let past = all.split_off(count);
@@ -72,7 +75,7 @@ impl Board {
     fn doubles(&self) -> Vec<f64> {
         let mut l = vec![self.pin.0, self.pin.1, self.listing.len() as f64];
         for e in self.listing.iter().chain(&self.past) {
-            l.extend([f64::from(e.shot), f64::from(e.bay), f64::from(e.termination), e.x, e.z]);
+            l.extend([f64::from(e.shot), f64::from(e.bay), f64::from(e.termination), f64::from(e.contacts), e.x, e.z]);
         }
         l
     }
@@ -126,6 +129,7 @@ pub struct Counts {
     answers: std::collections::BTreeMap<(&'static str, u32), u64>,
     ties: u64,
     filled: u64,
+    orders: u64,
 }
 
 impl Counts {
@@ -135,6 +139,7 @@ impl Counts {
         }
         self.ties += o.ties;
         self.filled += o.filled;
+        self.orders += o.orders;
     }
 }
 
@@ -177,7 +182,7 @@ mod doors {
     pub fn enter(l: &mut Vec<f64>, e: &Entry, r: &mut Rng, c: &mut Counts) -> u32 {
         let mut v = lent(l, r);
         let guard = v[l.len()..].to_vec();
-        let got = unsafe { dimple_board_enter(v.as_mut_ptr(), l.len(), e.bay, e.shot, e.termination, e.x, e.z) };
+        let got = unsafe { dimple_board_enter(v.as_mut_ptr(), l.len(), e.bay, e.shot, e.termination, e.contacts, e.x, e.z) };
         let want = super::enter(l, e);
         *l = want.1.clone();
         let answer = want.0;
@@ -247,6 +252,7 @@ fn random_entry(r: &mut Rng, pin: (f64, f64), shots: usize) -> Entry {
         shot: if r.chance(50) { r.pick(&[0, u32::MAX, 1 << 31]) } else { r.below(shots) as u32 },
         bay: if r.chance(60) { r.pick(&[8, 9, u32::MAX]) } else { r.below(8) as u32 },
         termination: if r.chance(60) { r.pick(&[0, 4, u32::MAX]) } else { r.pick(&[1, 1, 2, 3]) },
+        contacts: if r.chance(40) { r.pick(&[0, u32::MAX]) } else { 1 + r.below(3) as u32 },
         x: random_spot(r, pin.0),
         z: random_spot(r, pin.1),
     }
@@ -297,12 +303,44 @@ fn chain(r: &mut Rng, c: &mut Counts) -> Vec<f64> {
     l
 }
 
+/// Calls that no test can turn back, with ties at every level, in two random orders: every call is answered by 0, and the whole buffers are equal.
+fn permuted(r: &mut Rng, c: &mut Counts) {
+    let pin = random_pin(r);
+    let mut set: Vec<Entry> = vec![];
+    let size = r.pick(&[4, 20, 100, 256]);
+    for shot in 0..size {
+        let e = random_entry(r, pin, 1);
+        let spot = |x: f64, p: f64| if near(x, 1e6) { x } else { p };
+        let termination = if (1..=3).contains(&e.termination) { e.termination } else { 1 };
+        set.push(Entry { shot: shot * 7 % 257, bay: shot % 8, termination, x: spot(e.x, pin.0), z: spot(e.z, pin.1), ..e });
+    }
+    let mut first: Option<Vec<f64>> = None;
+    for _ in 0..2 {
+        for i in (1..set.len()).rev() {
+            let j = r.below(i + 1);
+            set.swap(i, j);
+        }
+        let mut l = garbage(r, LEN);
+        doors::new(pin, &mut l, r, c);
+        for e in &set {
+            if doors::enter(&mut l, e, r, c) != 0 {
+                crate::different("board", format!("{e:?} was turned back"), &[]);
+            }
+        }
+        match &first {
+            None => first = Some(l),
+            Some(f) if same(f, &l) => c.orders += 1,
+            Some(_) => crate::different("board", "two orders of entering list differently".into(), &[]),
+        }
+    }
+}
+
 /// A board with something changed, and every door on it.
 fn damaged(r: &mut Rng, c: &mut Counts, mut l: Vec<f64>) {
     match r.below(8) {
         0 => l = garbage(r, LEN),
         1 => {
-            let n = r.pick(&[0, 1, 2, 3, 771, 1027, LEN - 1, LEN + 1, LEN + WIDTH, 2000]);
+            let n = r.pick(&[0, 1, 2, 3, 771, 1027, 1283, LEN - 1, LEN + 1, LEN + WIDTH, 2000]);
             l.resize(n, 1.0);
         }
         2 => l[2] = r.below(260) as f64,
@@ -318,7 +356,7 @@ fn damaged(r: &mut Rng, c: &mut Counts, mut l: Vec<f64>) {
             // any listing, in no order, with repeats
             l[2] = r.below(257) as f64;
             for e in l[3..].chunks_mut(WIDTH) {
-                e.copy_from_slice(&[r.below(30) as f64, r.below(8) as f64, (1 + r.below(3)) as f64, r.range(-5.0, 5.0).round(), r.range(-5.0, 5.0).round()]);
+                e.copy_from_slice(&[r.below(30) as f64, r.below(8) as f64, (1 + r.below(3)) as f64, r.below(4) as f64, r.range(-5.0, 5.0).round(), r.range(-5.0, 5.0).round()]);
             }
         }
         _ => {
@@ -349,6 +387,7 @@ pub fn run(seed: u64, calls: u64, n: u64) {
         let mut r = Rng(seed.wrapping_mul(1000) + 900 + i);
         while c.answers.values().sum::<u64>() < calls / n {
             let l = chain(&mut r, &mut c);
+            permuted(&mut r, &mut c);
             for _ in 0..8 {
                 damaged(&mut r, &mut c, l.clone());
             }
@@ -362,4 +401,5 @@ pub fn run(seed: u64, calls: u64, n: u64) {
     }
     let calls = total.answers.values().sum::<u64>();
     println!("{calls} calls; {} accepted entries level with an earlier one but for the shot number; {} boards filled, 32 a bay", total.ties, total.filled);
+    println!("{} sets entered in two orders", total.orders);
 }

@@ -25,7 +25,7 @@ withListing b l =
     record { «pin_x» = b .«pin_x»; «pin_z» = b .«pin_z»; count = length l; entries = l ++ drop (length l) (b .entries) }
 
 abbrev pub emptyEntry : Entry
-emptyEntry = record { shot = 0; bay = 0; termination = Nothing; x = dec 0 1; z = dec 0 1 }
+emptyEntry = record { shot = 0; bay = 0; termination = Nothing; contacts = 0; x = dec 0 1; z = dec 0 1 }
 
 abbrev pub emptyBoard : Float → Float → Board
 emptyBoard px pz = record { «pin_x» = px; «pin_z» = pz; count = 0; entries = replicate 256 emptyEntry }

@@ -10,7 +10,7 @@ use Rattle.board.specs.declared.Entry.{Entry}
 
 -- what a list holds past its end
 abbrev pub none : Entry
-none = record { shot = 0; bay = 0; termination = Nothing; x = nan; z = nan }
+none = record { shot = 0; bay = 0; termination = Nothing; contacts = 0; x = nan; z = nan }
 
 -- how many entries of the list stand before the first of which p holds
 unfoldable pub placeIn : (Entry → Bool) → List Entry → ℕ

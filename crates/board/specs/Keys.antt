@@ -19,7 +19,7 @@ use Rattle.number.specs.Rounding.{about-finite, sub-mono, add-mono, round-betwe
 use Rattle.state.specs.declared.Termination.{Termination}
 use Rattle.state.specs.declared.Termination.the-variants.{Nothing, Rest, MaxTime, MaxImpacts}
 use Rattle.board.specs.declared.Entry.{Entry}
-use Rattle.board.specs.Rules.{keyOf, Comparison, leastKey, lower, moving, byFirst, isBefore}
+use Rattle.board.specs.Rules.{keyOf, Comparison, leastKey, lower, moving, cleaner, byFirst, isBefore}
 use Rattle.board.specs.Words.{Sorted, RestFirst, Near}
 use Rattle.board.specs.Sorting.{Order, all-map}
 use Rattle.board.specs.Comparing.{Lawful, Laws, Level, lower-lawful, first-asym, first-trans, first-total}
@@ -115,15 +115,15 @@ module _ (px pz : Float) where
           back (inr m) = inr (inr (eq-sym b a j i m, m))
 
   abbrev comparisons : List Comparison
-  comparisons = lower (λ e. moving (e .termination)) ∷ leastKey px pz ∷ lower (λ e. e .shot) ∷ []
+  comparisons = lower (λ e. moving (e .termination)) ∷ leastKey px pz ∷ cleaner
 
   laws : Laws Finite comparisons
   unfolding Laws
-  laws = (lower-lawful Finite (λ e. moving (e .termination)), (key-lawful, (lower-lawful Finite (λ e. e .shot), tt)))
+  laws = (lower-lawful Finite (λ e. moving (e .termination)), (key-lawful, (lower-lawful Finite (λ e. e .contacts), (lower-lawful Finite (λ e. e .shot), tt))))
 
   level-shots : (e f : Entry) → Level comparisons e f → e .shot ≡ f .shot
   unfolding Level
-  level-shots e f h = eqb→eq (e .shot) (f .shot) (h .1 .1 .0)
+  level-shots e f h = eqb→eq (e .shot) (f .shot) (h .1 .1 .1 .0)
 
   pub key-order : Order Finite (isBefore px pz)
   unfolding isBefore

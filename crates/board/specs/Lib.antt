@@ -8,3 +8,4 @@ pub mod Keys
 pub mod Tests
 pub mod Bays
 pub mod Listing
+pub mod Alike

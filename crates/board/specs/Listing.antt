@@ -143,12 +143,16 @@ made-entry px pz b l e m (taken k p q u r) =
       share = one-more e l (subst (λ (i : ℕ). i < 32) (used-listed (e .bay) m) u) (m .share);
     }
 
-pub made-calls : (px pz : Float) (b : Board) (calls : List Entry) (l : List Entry) → Made px pz b l → Made px pz (after b calls) (accepted b calls l)
-unfolding after accepted enterOf
-made-calls px pz b [] l m = m
-made-calls px pz b (e ∷ calls) l m = made-calls px pz (enterOf b e .board) calls _ (made-entry px pz b l e m (tested (listing b) e))
+pub made-call : (px pz : Float) (b : Board) (l : List Entry) (e : Entry) → Made px pz b l → Made px pz (enterOf b e .board) (kept (enterOf b e .answer) e l)
+unfolding enterOf
+made-call px pz b l e m = made-entry px pz b l e m (tested (listing b) e)
 
-made-new : (px pz : Float) → Made px pz (emptyBoard px pz) []
+pub made-calls : (px pz : Float) (b : Board) (calls : List Entry) (l : List Entry) → Made px pz b l → Made px pz (after b calls) (accepted b calls l)
+unfolding after accepted
+made-calls px pz b [] l m = m
+made-calls px pz b (e ∷ calls) l m = made-calls px pz (enterOf b e .board) calls _ (made-call px pz b l e m)
+
+pub made-new : (px pz : Float) → Made px pz (emptyBoard px pz) []
 unfolding sort All Distinct used
 made-new px pz =
     record {
@@ -161,6 +165,13 @@ made-new px pz =
       bays = tt;
       share = λ k. omega arith;
     }
+
+-- an entry in range, under a new number, for a bay with entries left, is taken
+pub made-room : {px pz : Float} {b : Board} {l : List Entry} → Made px pz b l → (e : Entry) → Near e → InBay e → holds (e .shot) (listing b) ≡ false
+    → used (e .bay) l < 32 → enterOf b e .answer ≡ 0
+made-room {px} {pz} {b} {l} m e h k i u =
+    let s = length-perm (sort-permutes (isBefore px pz) l) in
+    is-taken b e k h i (rw (used-listed (e .bay) m) u) (rw (m .sorted, s) (bays-fit l (m .bays) (m .share) (e .bay) k u))
 
 -- ---- for every list of calls from a new board
 module _ (px pz : Float) (calls : List Entry) where
@@ -205,7 +216,7 @@ module _ (px pz : Float) (calls : List Entry) where
 
   -- under a new number it is taken
   pub made-taken : (e : Entry) → Near e → InBay e → holds (e .shot) (listing board) ≡ false → used (e .bay) entries < 32 → enterOf board e .answer ≡ 0
-  made-taken e h k i u = is-taken board e k h i (rw (used-listed (e .bay) made) u) (has-room (e .bay) k u)
+  made-taken e h k i u = made-room made e h k i u
 
   -- and one that has used its 32 always is turned back, where 31, 10 and 25 do not come first
   pub always-24 : (e : Entry) → InBay e → Near e → holds (e .shot) (listing board) ≡ false → 32 ≤ used (e .bay) entries → enterOf board e .answer ≡ 24

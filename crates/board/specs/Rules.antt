@@ -1,5 +1,5 @@
--- Definitions. The board's rules on the list of its entries (01, "Lists and the rest of the shop"; 02, papers 2 and 6; numbers 31, 10, 25, 24): the order of a
--- listing, by which number an entry is turned back, and where an accepted one goes.
+-- Definitions. The board's rules on the list of its entries (01, "Lists and the rest of the shop"; 02, papers 2, 6 and 7; numbers 31, 10, 25, 24): the
+-- order of a listing, by which number an entry is turned back, and where an accepted one goes.
 use Prim.Native.Nat.{ℕ, _+_}
 use mathlib.Core.Bool.{Bool, true, false, not, _&&_, _||_, cond}
 use mathlib.Core.List.{List, [], _∷_}
@@ -43,10 +43,13 @@ moving Rest = 0
 moving MaxTime = 1
 moving MaxImpacts = 1
 
--- 02, paper 2: those still moving "are listed after every rest entry, in the same order among themselves";
--- 01: "Least first, equal keys by lower shot number"
+-- 02, paper 7: "Among equal distances the shot with fewer contacts comes first, then the lower shot number"
+abbrev pub cleaner : List Comparison
+cleaner = lower (λ e. e .contacts) ∷ lower (λ e. e .shot) ∷ []
+
+-- 02, paper 2: those still moving "are listed after every rest entry, in the same order among themselves"; 01: "Least first"
 unfoldable pub isBefore : Float → Float → Entry → Entry → Bool
-isBefore px pz = byFirst (lower (λ e. moving (e .termination)) ∷ leastKey px pz ∷ lower (λ e. e .shot) ∷ [])
+isBefore px pz = byFirst (lower (λ e. moving (e .termination)) ∷ leastKey px pz ∷ cleaner)
 
 -- ---- entering
 

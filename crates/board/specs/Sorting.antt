@@ -4,6 +4,7 @@ use mathlib.Core.Path.{_≡_, refl, ap, ap₂, _∙_, sym, subst}
 use mathlib.Core.Logic.{_⊎_, inl, inr}
 use mathlib.Core.Bool.{Bool, true, false}
 use mathlib.Core.List.{List, [], _∷_, List·Permᴰ, List·Permᴰ·nil, List·Permᴰ·cons, List·Permᴰ·swap, List·Permᴰ·trans, Permᴰ·refl, Permᴰ·symm}
+use lib.Dec.{T}
 use lib.ListN.{length}
 use Rattle.board.specs.declared.Entry.{Entry}
 use Rattle.board.specs.Rules.{insert}
@@ -74,6 +75,9 @@ module _ (P : Entry → Type 0) where
   all-perm (List·Permᴰ·swap e f) a = (subst P f (a .1 .0), (subst P e (a .0), a .1 .1))
   all-perm (List·Permᴰ·trans d e) a = all-perm e (all-perm d a)
 
+differ : false ≡ true → ⊥
+differ h = subst T (sym h) tt
+
 abbrev Other : Entry → Entry → Type 0
 Other e f = e .shot ≡ f .shot → ⊥
 
@@ -86,6 +90,20 @@ distinct-perm (List·Permᴰ·swap {l = l} e f) h = (
   (subst (λ (x : Entry). All (Other x) l) e (h .0 .1), h .1 .1),
 )
 distinct-perm (List·Permᴰ·trans d e) h = distinct-perm e (distinct-perm d h)
+
+-- where an entry is put
+module _ (q : Entry → Bool) (e : Entry) where
+  alone : insert q e [] ≡ e ∷ []
+  unfolding insert
+  alone = refl
+
+  put : (f : Entry) (l : List Entry) → q f ≡ true → insert q e (f ∷ l) ≡ e ∷ f ∷ l
+  unfolding insert
+  put f l h = ap (λ (b : Bool). elim b [ true ↦ e ∷ f ∷ l | false ↦ f ∷ insert q e l ]) h
+
+  pass : (f : Entry) (l : List Entry) → q f ≡ false → insert q e (f ∷ l) ≡ f ∷ insert q e l
+  unfolding insert
+  pass f l h = ap (λ (b : Bool). elim b [ true ↦ e ∷ f ∷ l | false ↦ f ∷ insert q e l ]) h
 
 module _ (Q : Entry → Type 0) (p : Entry → Entry → Bool) (o : Order Q p) where
   -- ---- sorted
@@ -117,3 +135,44 @@ module _ (Q : Entry → Type 0) (p : Entry → Entry → Bool) (o : Order Q p) w
   sort-sorts [] a = tt
   sort-sorts (e ∷ l) a =
       insert-sorted e (sort p l) (a .0) (all-perm Q (Permᴰ·symm (sort-permutes p l)) (a .1)) (sort-sorts l (a .1))
+
+  -- ---- lists that permute each other sort alike
+
+  either : (e f : Entry) → Q e → Q f → Other e f → ((p e f ≡ true) × (p f e ≡ false)) ⊎ ((p e f ≡ false) × (p f e ≡ true))
+  either e f i j d = go (p e f) refl
+    where
+      go : (b : Bool) → p e f ≡ b → ((p e f ≡ true) × (p f e ≡ false)) ⊎ ((p e f ≡ false) × (p f e ≡ true))
+      go true h = inl (h, o .asym e f i j h)
+      go false h = inr (h, o .total e f i j d h)
+
+  insert-swap : (e f : Entry) → Q e → Q f → Other e f → (l : List Entry) → All Q l → insert (p e) e (insert (p f) f l) ≡ insert (p f) f (insert (p e) e l)
+  unfolding All
+  insert-swap e f i j d [] a = go (either e f i j d)
+    where
+      go : ((p e f ≡ true) × (p f e ≡ false)) ⊎ ((p e f ≡ false) × (p f e ≡ true)) → insert (p e) e (insert (p f) f []) ≡ insert (p f) f (insert (p e) e [])
+      go (inl h) = rw (alone (p f) f, alone (p e) e, put (p e) e f [] (h .0), pass (p f) f e [] (h .1), alone (p f) f)
+      go (inr h) = rw (alone (p f) f, alone (p e) e, pass (p e) e f [] (h .0), alone (p e) e, put (p f) f e [] (h .1))
+  insert-swap e f i j d (g ∷ l) a = go (either e f i j d) (p e g) refl (p f g) refl (insert-swap e f i j d l (a .1))
+    where
+      go : ((p e f ≡ true) × (p f e ≡ false)) ⊎ ((p e f ≡ false) × (p f e ≡ true)) → (s : Bool) → p e g ≡ s → (t : Bool) → p f g ≡ t
+          → insert (p e) e (insert (p f) f l) ≡ insert (p f) f (insert (p e) e l)
+          → insert (p e) e (insert (p f) f (g ∷ l)) ≡ insert (p f) f (insert (p e) e (g ∷ l))
+      go (inl h) true s true t r = rw (put (p f) f g l t, put (p e) e g l s, put (p e) e f (g ∷ l) (h .0), pass (p f) f e (g ∷ l) (h .1), put (p f) f g l t)
+      go (inr h) true s true t r = rw (put (p f) f g l t, put (p e) e g l s, pass (p e) e f (g ∷ l) (h .0), put (p e) e g l s, put (p f) f e (g ∷ l) (h .1))
+      go (inl h) true s false t r =
+          rw (pass (p f) f g l t, put (p e) e g l s, put (p e) e g (insert (p f) f l) s, pass (p f) f e (g ∷ l) (h .1), pass (p f) f g l t)
+      go (inr h) true s false t r = absurd (differ (sym t ∙ o .trans f e g j i (a .0) (h .1) s))
+      go (inl h) false s true t r = absurd (differ (sym s ∙ o .trans e f g i j (a .0) (h .0) t))
+      go (inr h) false s true t r =
+          rw (put (p f) f g l t, pass (p e) e g l s, pass (p e) e f (g ∷ l) (h .0), pass (p e) e g l s, put (p f) f g (insert (p e) e l) t)
+      go w false s false t r =
+          rw (pass (p f) f g l t, pass (p e) e g l s, pass (p e) e g (insert (p f) f l) s, pass (p f) f g (insert (p e) e l) t, r)
+
+  pub sort-alike : {l m : List Entry} → List·Permᴰ l m → All Q l → Distinct l → sort p l ≡ sort p m
+  unfolding sort All Distinct
+  sort-alike List·Permᴰ·nil a d = refl
+  sort-alike (List·Permᴰ·cons e r) a d = ap₂ (λ (x : Entry) (s : List Entry). insert (p x) x s) e (sort-alike r (a .1) (d .1))
+  sort-alike (List·Permᴰ·swap {a = x} {b = y} {l = l} e f) a d =
+      insert-swap x y (a .0) (a .1 .0) (d .0 .0) (sort p l) (all-perm Q (Permᴰ·symm (sort-permutes p l)) (a .1 .1))
+      ∙ ap₂ (λ (u v : Entry). insert (p u) u (insert (p v) v (sort p l))) f e
+  sort-alike (List·Permᴰ·trans r s) a d = sort-alike r a d ∙ sort-alike s (all-perm Q r a) (distinct-perm r d)

@@ -51,6 +51,11 @@ unfoldable pub after : Board → List Entry → Board
 after b [] = b
 after b (e ∷ l) = after (enterOf b e .board) l
 
+-- what each call is answered
+unfoldable pub answers : Board → List Entry → List ℕ
+answers b [] = []
+answers b (e ∷ l) = enterOf b e .answer ∷ answers (enterOf b e .board) l
+
 -- one entry more where the answer is 0
 abbrev pub kept : ℕ → Entry → List Entry → List Entry
 kept zero e l = e ∷ l

@@ -3,16 +3,17 @@ ghost use mathlib.Core.Path.{_≡_};
 ghost use Prim.Native.Nat.{_+_, _≤_, _<_};
 ghost use mathlib.Core.List.{_++_};
 ghost use lib.ListN.{length, take, drop};
-ghost use Rattle.board.specs.Rules.{keyOf, moving, isBefore, insert, holds, one, used, answerOf};
+ghost use Rattle.board.specs.Rules.{keyOf, moving, byFirst, cleaner, isBefore, insert, holds, one, used, answerOf};
 ghost use Rattle.board.specs.Board.{listing, newOf, emptyBoard, withEntry, enterOf, placeOf};
 ghost use Rattle.board.specs.Inner.{Shows, placeIn, insertedAt};
 use state::Termination;
 
-// An entry: a shot's number and its bay, how its run ended, and where its ball was then.
+// An entry: a shot's number and its bay, how its run ended, its count of contacts, and where its ball was then.
 pub struct Entry {
     pub shot: u32,
     pub bay: u32,
     pub termination: Termination,
+    pub contacts: u32,
     pub x: f64,
     pub z: f64,
 }
@@ -56,6 +57,13 @@ fn moving(t: Termination) -> u32
     }
 }
 
+// Of two at one distance: fewer contacts first, then the lower shot number.
+fn cleaner(e: Entry, f: Entry) -> bool
+    ensures { λ r. ⌜ r ≡ byFirst cleaner e f ⌝ }
+{
+    (e.contacts < f.contacts) | ((e.contacts == f.contacts) & (e.shot < f.shot))
+}
+
 // Whether e is listed before f.
 fn is_before(pin_x: f64, pin_z: f64, e: Entry, f: Entry) -> bool
     ensures { λ r. ⌜ r ≡ isBefore «pin_x» «pin_z» e f ⌝ }
@@ -66,7 +74,7 @@ fn is_before(pin_x: f64, pin_z: f64, e: Entry, f: Entry) -> bool
     let n = moving(t);
     let a = key(pin_x, pin_z, e);
     let b = key(pin_x, pin_z, f);
-    (m < n) | ((m == n) & ((a < b) | ((a == b) & (e.shot < f.shot))))
+    (m < n) | ((m == n) & ((a < b) | ((a == b) & cleaner(e, f))))
 }
 
 // How many of the first `count` entries stand before e's place.
@@ -192,6 +200,7 @@ fn empty(pin_x: f64, pin_z: f64) -> Board
             shot: 0,
             bay: 0,
             termination: Termination::Nothing,
+            contacts: 0,
             x: 0.0,
             z: 0.0,
         }; 256],

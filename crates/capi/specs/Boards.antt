@@ -27,11 +27,12 @@ pub record Sent : Type 0 where
   pub bay : ℕ
   pub shot : ℕ
   pub termination : ℕ
+  pub contacts : ℕ
   pub x : Float
   pub z : Float
 
 abbrev pub sentEntry : Sent → Entry
-sentEntry s = record { shot = s .shot; bay = s .bay; termination = terminationOf (s .termination); x = s .x; z = s .z }
+sentEntry s = record { shot = s .shot; bay = s .bay; termination = terminationOf (s .termination); contacts = s .contacts; x = s .x; z = s .z }
 
 -- the termination is one of 1 to 3
 unfoldable pub isEnd : ℕ → Bool

@@ -17,7 +17,7 @@ use Rattle.board.specs.Board.{listing, answered, given, newOf, enterOf, placeOf
 use Rattle.board.specs.Listing.{enter-answers, place-answers}
 use Rattle.board.specs.declared.Board.{Board}
 use Rattle.layout.specs.Layout.{boardLength, numberOf, terminationOf, boardFields}
-use Rattle.layout.specs.RoundTrip.{Ended, Held, written-length, written-ok, written-back, new-held, enter-held}
+use Rattle.layout.specs.RoundTrip.{Ended, Numbers, Held, written-length, written-ok, written-back, new-held, enter-held}
 use Rattle.capi.specs.Doors.{Door, door}
 use Rattle.capi.specs.Boards.{Sent, sentEntry, isEnd, sentOf, newDoorOf, entered, enterDoorOf, placeDoorOf}
 
@@ -75,7 +75,7 @@ is-end (suc (suc zero)) h k = omega arith
 is-end (suc (suc (suc zero))) h k = omega arith
 is-end (suc (suc (suc (suc n)))) h k = absurd (let m = leb→le (suc (suc (suc (suc n)))) 3 k in omega arith)
 
-sent-held : (b : Board) (s : Sent) → s .shot ≤ 4294967295 → Held b → Held (sentOf b s .board)
+sent-held : (b : Board) (s : Sent) → Numbers (sentEntry s) → Held b → Held (sentOf b s .board)
 unfolding sentOf isEnd
 sent-held b s m h = go (leb 1 (s .termination)) (λ t. t) (leb (s .termination) 3) (λ t. t)
   where
@@ -97,10 +97,10 @@ unfoldable pub boardsOf : Board → List Sent → List Door
 boardsOf b [] = []
 boardsOf b (s ∷ calls) = let e = sentOf b s in door (e .answer) (boardFields (e .board)) ∷ boardsOf (e .board) calls
 
--- each shot number is one that a u32 holds
+-- each shot number and count of contacts is one that a u32 holds
 unfoldable pub Numbered : List Sent → Type 0
 Numbered [] = Unit
-Numbered (s ∷ calls) = (s .shot ≤ 4294967295) × Numbered calls
+Numbered (s ∷ calls) = ((s .shot ≤ 4294967295) × (s .contacts ≤ 4294967295)) × Numbered calls
 
 pub chain-from : (b : Board) → Held b → (calls : List Sent) → Numbered calls → doorsOf (boardFields b) calls ≡ boardsOf b calls
 unfolding doorsOf boardsOf Numbered

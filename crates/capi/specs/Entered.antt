@@ -43,7 +43,7 @@ module _ (sheet : List ℕ) (shot : Shot) (cs ps : List Float) where
 
   -- the entry of the run under a shot number, for a bay
   abbrev pub entryOf : ℕ → ℕ → Entry
-  entryOf k n = record { shot = n; bay = k; termination = run .termination; x = run .rest .pos .x; z = run .rest .pos .z }
+  entryOf k n = record { shot = n; bay = k; termination = run .termination; contacts = run .contacts; x = run .rest .pos .x; z = run .rest .pos .z }
 
   run-near : run .answer ≡ 0 → (k n : ℕ) → Near (entryOf k n)
   run-near h k n =
@@ -62,22 +62,28 @@ module _ (sheet : List ℕ) (shot : Shot) (cs ps : List Float) where
 
   -- what dimple_board_enter is handed for the run: the numbers of its result
   abbrev pub sentRun : ℕ → ℕ → Sent
-  sentRun k n = record { bay = k; shot = n; termination = terminationNumber (run .termination); x = run .rest .pos .x; z = run .rest .pos .z }
+  sentRun k n =
+      record {
+        bay = k;
+        shot = n;
+        termination = terminationNumber (run .termination);
+        contacts = run .contacts;
+        x = run .rest .pos .x;
+        z = run .rest .pos .z;
+      }
 
   -- it takes them as that entry, and 102 never comes
   pub sent-run : run .answer ≡ 0 → (b : Board) (k n : ℕ) → sentOf b (sentRun k n) ≡ enterOf b (entryOf k n)
   unfolding sentOf isEnd terminationOf terminationNumber
   sent-run h b k n = go (run .termination) (finished sheet shot cs ps h)
     where
-      x : Float
-      x = run .rest .pos .x
+      sent : Termination → Sent
+      sent t = record { bay = k; shot = n; termination = terminationNumber t; contacts = run .contacts; x = run .rest .pos .x; z = run .rest .pos .z }
 
-      z : Float
-      z = run .rest .pos .z
+      entry : Termination → Entry
+      entry t = record { shot = n; bay = k; termination = t; contacts = run .contacts; x = run .rest .pos .x; z = run .rest .pos .z }
 
-      go : (t : Termination) → (t ≡ Nothing → ⊥)
-          → sentOf b (record { bay = k; shot = n; termination = terminationNumber t; x = x; z = z }) ≡ enterOf b
-          (record { shot = n; bay = k; termination = t; x = x; z = z })
+      go : (t : Termination) → (t ≡ Nothing → ⊥) → sentOf b (sent t) ≡ enterOf b (entry t)
       go Nothing i = absurd (i refl)
       go Rest i = refl
       go MaxTime i = refl

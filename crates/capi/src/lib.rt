@@ -204,10 +204,21 @@ fn write_entered(board: &mut [f64], e: Entered) -> u32
 }
 
 // One entry more on a board that the doubles are; 102 for a number that is no termination's.
-fn enter_sent(board: &mut [f64], bay: u32, shot: u32, termination: u32, x: f64, z: f64) -> u32
+fn enter_sent(
+    board: &mut [f64],
+    bay: u32,
+    shot: u32,
+    termination: u32,
+    contacts: u32,
+    x: f64,
+    z: f64,
+) -> u32
     requires { ⌜ length (now board) ≡ boardLength ⌝ }
     ensures { λ r. ⌜ door r (now (board .exit))
-        ≡ entered (sentOf (boardAt (now (board .entry))) (record { bay = bay; shot = shot; termination = termination; x = x; z = z })) (now (board .entry)) ⌝ }
+        ≡ entered
+        (sentOf (boardAt (now (board .entry)))
+        (record { bay = bay; shot = shot; termination = termination; contacts = contacts; x = x; z = z }))
+        (now (board .entry)) ⌝ }
 {
     if (1 <= termination) & (termination <= 3) {
         let b = layout::board_at(board);
@@ -215,6 +226,7 @@ fn enter_sent(board: &mut [f64], bay: u32, shot: u32, termination: u32, x: f64, 
             shot,
             bay,
             termination: layout::termination_of(termination),
+            contacts,
             x,
             z,
         };
@@ -229,17 +241,18 @@ pub extern "C" fn dimple_board_enter(
     bay: u32,
     shot: u32,
     termination: u32,
+    contacts: u32,
     x: f64,
     z: f64,
 ) -> u32
     ensures { λ r. ⌜ door r (now (board .exit))
-        ≡ enterDoorOf (now (board .entry)) (record { bay = bay; shot = shot; termination = termination; x = x; z = z }) ⌝ }
+        ≡ enterDoorOf (now (board .entry)) (record { bay = bay; shot = shot; termination = termination; contacts = contacts; x = x; z = z }) ⌝ }
 {
     if board.len() != layout::BOARD_LENGTH {
         return 100;
     }
     if layout::board_ok(board) {
-        return enter_sent(board, bay, shot, termination, x, z);
+        return enter_sent(board, bay, shot, termination, contacts, x, z);
     }
     101
 }

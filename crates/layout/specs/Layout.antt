@@ -1,5 +1,5 @@
 -- Definitions. A board as doubles (include/dimple.h): the pin's x and z, the count, then 256 entries, each shot,
--- bay, termination, x, z.
+-- bay, termination, contacts, x, z.
 use Prim.Native.Nat.{ℕ, zero, suc, _+_, _*_}
 use mathlib.Core.Bool.{Bool, true, _&&_, cond}
 use mathlib.Core.List.{List, [], _∷_, _++_}
@@ -17,7 +17,7 @@ use Rattle.board.specs.Inner.{none}
 
 -- the doubles of an entry, where entry i begins, and the doubles of a board
 abbrev pub width : ℕ
-width = 5
+width = 6
 
 abbrev pub start : ℕ → ℕ
 start i = 3 + width * i
@@ -45,12 +45,14 @@ numberOf MaxImpacts = 3
 unfoldable pub terminationOf : ℕ → Termination
 terminationOf n = cond (eqb n 1) Rest (cond (eqb n 2) MaxTime (cond (eqb n 3) MaxImpacts Nothing))
 
--- an entry that begins at o: shot (u32), bay from 0 to 7, a termination's number from t on, x, z within ±1,000,000
+-- an entry that begins at o: shot (u32), bay from 0 to 7, a termination's number from t on, contacts (u32), x, z within ±1,000,000
 unfoldable pub entryOk : List Float → ℕ → ℕ → Bool
 entryOk l t o =
     isWhole 0 4294967295 (doubleAt l o)
     && (isWhole 0 7 (doubleAt l (o + 1))
-    && (isWhole t 3 (doubleAt l (o + 2)) && (aboutOf (dec 1000000 1) (doubleAt l (o + 3)) && aboutOf (dec 1000000 1) (doubleAt l (o + 4)))))
+    && (isWhole t 3 (doubleAt l (o + 2))
+    && (isWhole 0 4294967295 (doubleAt l (o + 3))
+    && (aboutOf (dec 1000000 1) (doubleAt l (o + 4)) && aboutOf (dec 1000000 1) (doubleAt l (o + 5))))))
 
 unfoldable pub entryAt : List Float → ℕ → Entry
 entryAt l o =
@@ -58,8 +60,9 @@ entryAt l o =
       shot = natOf (doubleAt l o);
       bay = natOf (doubleAt l (o + 1));
       termination = terminationOf (natOf (doubleAt l (o + 2)));
-      x = doubleAt l (o + 3);
-      z = doubleAt l (o + 4);
+      contacts = natOf (doubleAt l (o + 3));
+      x = doubleAt l (o + 4);
+      z = doubleAt l (o + 5);
     }
 
 -- every entry of a listing has ended somehow; a place past the count may hold 0 as well
@@ -84,7 +87,7 @@ unfoldable pub boardAt : List Float → Board
 boardAt l = record { «pin_x» = doubleAt l 0; «pin_z» = doubleAt l 1; count = natOf (doubleAt l 2); entries = entriesAt l 256 }
 
 abbrev pub entryFields : Entry → List Float
-entryFields e = wholeOf (e .shot) ∷ wholeOf (e .bay) ∷ wholeOf (numberOf (e .termination)) ∷ e .x ∷ e .z ∷ []
+entryFields e = wholeOf (e .shot) ∷ wholeOf (e .bay) ∷ wholeOf (numberOf (e .termination)) ∷ wholeOf (e .contacts) ∷ e .x ∷ e .z ∷ []
 
 -- the first n entries, one after another
 unfoldable pub entriesFields : List Entry → ℕ → List Float

@@ -124,17 +124,24 @@ module _ (b : Board) where
     termination-at : doubleAt (boardFields b) (start i + 2) ≡ wholeOf (numberOf (getD (b .entries) i none .termination))
     termination-at = double-at i 2 (start i + 2) h (omega arith) (omega arith)
 
-    x-at : doubleAt (boardFields b) (start i + 3) ≡ getD (b .entries) i none .x
-    x-at = double-at i 3 (start i + 3) h (omega arith) (omega arith)
+    contacts-at : doubleAt (boardFields b) (start i + 3) ≡ wholeOf (getD (b .entries) i none .contacts)
+    contacts-at = double-at i 3 (start i + 3) h (omega arith) (omega arith)
 
-    z-at : doubleAt (boardFields b) (start i + 4) ≡ getD (b .entries) i none .z
-    z-at = double-at i 4 (start i + 4) h (omega arith) (omega arith)
+    x-at : doubleAt (boardFields b) (start i + 4) ≡ getD (b .entries) i none .x
+    x-at = double-at i 4 (start i + 4) h (omega arith) (omega arith)
+
+    z-at : doubleAt (boardFields b) (start i + 5) ≡ getD (b .entries) i none .z
+    z-at = double-at i 5 (start i + 5) h (omega arith) (omega arith)
 
 -- ---- boards
 
--- a shot number that a u32 holds, a bay that passed test 31, and a spot that passed test 10
+-- a shot number and a count of contacts that a u32 holds
+abbrev pub Numbers : Entry → Type 0
+Numbers e = (e .shot ≤ 4294967295) × (e .contacts ≤ 4294967295)
+
+-- such numbers, a bay that passed test 31, and a spot that passed test 10
 abbrev pub Kept : Entry → Type 0
-Kept e = (e .shot ≤ 4294967295) × (InBay e × Near e)
+Kept e = Numbers e × (InBay e × Near e)
 
 -- a run that ended: 1 to 3 is its termination's number
 abbrev pub Ended : Termination → Type 0
@@ -183,12 +190,14 @@ module _ (b : Board) (h : Held b) where
         shot-at b i l,
         bay-at b i l,
         termination-at b i l,
+        contacts-at b i l,
         x-at b i l,
         z-at b i l,
-        nat-whole (e .shot) (k .0),
+        nat-whole (e .shot) (k .0 .0),
         nat-whole (e .bay) (omega (arith, k .1 .0)),
         nat-whole (numberOf (e .termination)) (omega arith),
         number-back (e .termination),
+        nat-whole (e .contacts) (k .0 .1),
       )
 
   least : (i : ℕ) → leastAt (b .count) i ≤ numberOf (getD (b .entries) i none .termination)
@@ -214,11 +223,13 @@ module _ (b : Board) (h : Held b) where
         shot-at b i l,
         bay-at b i l,
         termination-at b i l,
+        contacts-at b i l,
         x-at b i l,
         z-at b i l,
-        whole-is-whole (e .shot) (k .0) 0 4294967295 (omega arith) (k .0),
+        whole-is-whole (e .shot) (k .0 .0) 0 4294967295 (omega arith) (k .0 .0),
         whole-is-whole (e .bay) (omega (arith, k .1 .0)) 0 7 (omega arith) (k .1 .0),
         whole-is-whole (numberOf (e .termination)) (omega arith) (leastAt (b .count) i) 3 (least i) m,
+        whole-is-whole (e .contacts) (k .0 .1) 0 4294967295 (omega arith) (k .0 .1),
         is-true (aboutOf (dec 1000000 1) (e .x)) (k .1 .1 .0),
         is-true (aboutOf (dec 1000000 1) (e .z)) (k .1 .1 .1),
       )
@@ -282,7 +293,7 @@ module _ (P : Entry → Type 0) where
 
 empty-kept : Kept emptyEntry
 unfolding round neg le lt eq withinOf
-empty-kept = (omega arith, (omega arith, (tt, tt)))
+empty-kept = ((omega arith, omega arith), (omega arith, (tt, tt)))
 
 empty-held : (px pz : Float) → T (aboutOf (dec 100000 1) px) → T (aboutOf (dec 100000 1) pz) → Held (emptyBoard px pz)
 unfolding All
@@ -324,8 +335,8 @@ with-held b e room k t h =
           (all-insert (λ (f : Entry). Ended (f .termination)) (isBefore (b .«pin_x») (b .«pin_z») e) e (listing b) t (h .ended));
     }
 
--- with a shot number that a u32 holds, of a run that ended, on every answer
-pub enter-held : (b : Board) (e : Entry) → e .shot ≤ 4294967295 → Ended (e .termination) → Held b → Held (enterOf b e .board)
+-- with numbers that a u32 holds, of a run that ended, on every answer
+pub enter-held : (b : Board) (e : Entry) → Numbers e → Ended (e .termination) → Held b → Held (enterOf b e .board)
 unfolding enterOf
 enter-held b e m t h = go (tested (listing b) e)
   where

@@ -1,4 +1,4 @@
-// A board as doubles: the pin's x and z, the count, then 256 entries, each shot, bay, termination, x, z.
+// A board as doubles: the pin's x and z, the count, then 256 entries, each shot, bay, termination, contacts, x, z.
 ghost use mathlib.Core.Path.{_≡_};
 ghost use Prim.Native.Nat.{_+_, _*_, _≤_};
 ghost use mathlib.Core.List.{_++_};
@@ -11,9 +11,9 @@ use board::Entry;
 use state::Termination;
 
 // The doubles of an entry.
-const WIDTH: usize = 5;
+const WIDTH: usize = 6;
 // The doubles of a board.
-pub const BOARD_LENGTH: usize = 1283;
+pub const BOARD_LENGTH: usize = 1539;
 
 // A double without its fraction, or 0 where that is no u32.
 fn nat_of(x: f64) -> u32
@@ -86,8 +86,9 @@ fn entry_ok(l: &[f64], least: u32, o: usize) -> bool
     is_whole(l[o], 0, 4294967295)
         & (is_whole(l[o + 1], 0, 7)
             & (is_whole(l[o + 2], least, 3)
-                & (number::within(-1000000.0, 1000000.0, l[o + 3])
-                    & number::within(-1000000.0, 1000000.0, l[o + 4]))))
+                & (is_whole(l[o + 3], 0, 4294967295)
+                    & (number::within(-1000000.0, 1000000.0, l[o + 4])
+                        & number::within(-1000000.0, 1000000.0, l[o + 5])))))
 }
 
 fn entry_at(l: &[f64], o: usize) -> Entry
@@ -98,8 +99,9 @@ fn entry_at(l: &[f64], o: usize) -> Entry
         shot: nat_of(l[o]),
         bay: nat_of(l[o + 1]),
         termination: termination_of(nat_of(l[o + 2])),
-        x: l[o + 3],
-        z: l[o + 4],
+        contacts: nat_of(l[o + 3]),
+        x: l[o + 4],
+        z: l[o + 5],
     }
 }
 
@@ -124,6 +126,7 @@ fn entries_at(l: &[f64]) -> [Entry; 256]
         shot: 0,
         bay: 0,
         termination: Termination::Nothing,
+        contacts: 0,
         x: 0.0,
         z: 0.0,
     }; 256];
@@ -169,6 +172,7 @@ fn write_entry(out: &mut [f64], o: usize, e: Entry)
         fields::whole(e.shot as u64),
         fields::whole(e.bay as u64),
         fields::whole(termination_number(t) as u64),
+        fields::whole(e.contacts as u64),
         e.x,
         e.z,
     ];

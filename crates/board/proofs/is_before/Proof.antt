@@ -1,4 +1,3 @@
-use mathlib.Core.Bool.{and-false, or-false}
 use Rattle.board.specs.Rules.{byFirst, isBefore}
 use borrow.Author.Needs.{needs}
 use Rattle.board.proofs.is_before.Statement.{statement}
@@ -6,20 +5,20 @@ use Rattle.board.proofs.is_before.Tie as tie
 
 returns : tie.Need-returns
 unfolding isBefore byFirst
-returns c =
-    simp (
-      ← c .before .before .key2 .ensures,
-      ← c .before .before .before .key .ensures,
-      ← c .before .before .before .before .moving2 .ensures,
-      ← c .before .before .before .before .before .moving .ensures,
-      and-false,
-      or-false,
-    )
+returns c = simp (
+  c .cleaner .ensures,
+  ← c .before .key2 .ensures,
+  ← c .before .before .key .ensures,
+  ← c .before .before .before .moving2 .ensures,
+  ← c .before .before .before .before .moving .ensures,
+  byFirst,
+)
 
 pub is-before-spec : {M : Type 1} → statement M
 is-before-spec =
     tie.close
     (tie.spec
+    (λ c κs. search needs)
     (λ c κs. search needs)
     (λ c κs. search needs)
     (λ c κs. search needs)

@@ -16,7 +16,7 @@ use Rattle.capi.proofs.enter_sent.Tie as tie
 
 enters : (l : List Float) (s : Sent) {b : Board} {t : Termination} {e : Entered} {d : Door} → isEnd (s .termination) ≡ true → b ≡ boardAt l
     → t ≡ terminationOf (s .termination) → e ≡ enterOf b
-    (record { shot = s .shot; bay = s .bay; termination = t; x = s .x; z = s .z }) → d ≡ entered e l
+    (record { shot = s .shot; bay = s .bay; termination = t; contacts = s .contacts; x = s .x; z = s .z }) → d ≡ entered e l
     → d ≡ entered (sentOf (boardAt l) s) l
 unfolding sentOf
 enters l s k x1 x2 x3 x4 = rw (k, ← x1, ← x2, ← x3) x4
@@ -28,7 +28,7 @@ returns c =
     let at-board-at = at-enter .before .before .before in
     let at-start = at-board-at .before .before .before .before in
     let a = at-start .args in
-    enters (a .board .now) (record { bay = a .bay; shot = a .shot; termination = a .termination; x = a .x; z = a .z })
+    enters (a .board .now) (record { bay = a .bay; shot = a .shot; termination = a .termination; contacts = a .contacts; x = a .x; z = a .z })
     (at-board-at .before .before .if1 .taken)
     (at-board-at .board-at .ensures)
     (at-enter .before .before .termination-of .ensures) (at-enter .enter .ensures) (c .before .before .write-entered .ensures)

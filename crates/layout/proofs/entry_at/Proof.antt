@@ -7,13 +7,14 @@ use Rattle.layout.proofs.entry_at.Tie as tie
 returns : tie.Need-returns
 unfolding entryAt
 returns c =
-    let at-nat-of3 = c .before .before .before in
-    let at-nat-of = at-nat-of3 .before .before .before .before in
+    let at-termination-of = c .before .before .before .before in
+    let at-nat-of2 = at-termination-of .before .before .before in
     rw (
-      c .before .before .termination-of .ensures,
-      at-nat-of3 .nat-of3 .ensures,
-      at-nat-of3 .before .before .nat-of2 .ensures,
-      at-nat-of .nat-of .ensures,
+      c .before .before .nat-of4 .ensures,
+      at-termination-of .termination-of .ensures,
+      at-termination-of .before .nat-of3 .ensures,
+      at-nat-of2 .nat-of2 .ensures,
+      at-nat-of2 .before .before .nat-of .ensures,
     )
 
 pub entry-at-spec : {M : Type 1} → statement M
@@ -31,6 +32,10 @@ entry-at-spec =
     (λ c. search needs)
     (λ c. search needs)
     (λ c κs. search needs)
+    (λ c κs. search needs)
+    (λ c. search needs)
+    (λ c. search needs)
+    (λ c. search needs)
     (λ c κs. search needs)
     (λ c. search needs)
     (λ c. search needs)

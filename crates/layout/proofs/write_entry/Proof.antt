@@ -5,13 +5,15 @@ use Rattle.layout.proofs.write_entry.Tie as tie
 
 returns : tie.Need-returns
 returns c =
-    let at-whole3 = c .before .before .before .before .before in
-    let at-whole = at-whole3 .before .before .before .before in
+    let at-whole4 = c .before .before .before .before .before in
+    let at-termination-number = at-whole4 .before .before .before in
+    let at-whole = at-termination-number .before .before .before in
     rw (
       c .before .before .put .ensures,
-      at-whole3 .whole3 .ensures,
-      at-whole3 .before .termination-number .ensures,
-      at-whole3 .before .before .whole2 .ensures,
+      at-whole4 .whole4 .ensures,
+      at-whole4 .before .before .whole3 .ensures,
+      at-termination-number .termination-number .ensures,
+      at-termination-number .before .whole2 .ensures,
       at-whole .whole .ensures,
     )
 
@@ -23,6 +25,8 @@ write-entry-spec =
     (λ c κs. search needs)
     (λ c. search needs)
     (λ c κs. search needs)
+    (λ c κs. search needs)
+    (λ c. search needs)
     (λ c κs. search needs)
     (λ c. search needs)
     (λ c κs. search needs)
