@@ -1,5 +1,5 @@
 /* The doors of the crate capi, for C, Rust and Python. Link libcapi.a (rt staticlib capi, x86-64 Linux) or target/libdimple.so,
- * which `make` builds of it. Lengths count doubles, or bytes for a sheet, an input and a name. Buffers must not overlap. No door keeps a pointer.
+ * which `make` builds of it. Lengths count doubles, or bytes for a sheet, an input, a page and a name. Buffers must not overlap. No door keeps a pointer.
  * Answers: 0, or a number of document 01 or 02 (README.md has the table). 100 and up are the doors' own. */
 #ifndef DIMPLE_H
 #define DIMPLE_H
@@ -20,6 +20,15 @@ extern "C" {
  * Answers: 0, 12, 8, 1 to 7, 20 to 23. */
 uint32_t dimple_settle(const uint8_t *input, size_t input_len, double *contacts, size_t contacts_len,
                        double *points, size_t points_len, double *result, size_t result_len);
+
+/* Settles a landing as dimple_settle does, and prints a run that finished on the page (bytes in ASCII), in lines of exactly 60 bytes, the last a
+ * line feed: a heading, the termination's word (rest, time, impacts) and spaces, then a line a contact: its number, from 1 (4 wide), time in
+ * milliseconds (11), x, y, z in centimetres (14 each), right-aligned with spaces, then two spaces. Each value is the whole number nearest the
+ * exact one, halves away from zero; a zero has no sign. Bytes past the last line stay.
+ * Answers: those of dimple_settle, with the page untouched on each but 0, and 30: the page is shorter than 60 * (1 + contacts); it is untouched,
+ * the result's first number is 30, and the lists and the rest of the result are the run's. */
+uint32_t dimple_card(const uint8_t *input, size_t input_len, double *contacts, size_t contacts_len,
+                     double *points, size_t points_len, double *result, size_t result_len, uint8_t *page, size_t page_len);
 
 /* One ground step. physics: dt, stop_speed, roll_threshold (3). ball: 12. state: time, pos, vel, spin, phase (11).
  * The state is changed on answer 0 alone; the phase is written always, 0 on a number. 100: a length is not the one named, nothing is touched. */

@@ -38,6 +38,7 @@ WORDS = {
     24: "this bay has used its 32 entries",
     25: "the shot number is on the board already",
     26: "there is no entry at that place",
+    30: "the page is too short for the card",
     31: "the bay is above 7",
     32: "a name is 1 to 12 letters from A to Z",
     33: "the shelf holds 16 names",
@@ -122,6 +123,7 @@ def _library():
     lib = ctypes.CDLL(LIBRARY)
     doubles, size = ctypes.POINTER(ctypes.c_double), ctypes.c_size_t
     lib.dimple_settle.argtypes = [ctypes.c_char_p, size, doubles, size, doubles, size, doubles, size]
+    lib.dimple_card.argtypes = lib.dimple_settle.argtypes + [ctypes.c_char_p, size]
     lib.dimple_step.argtypes = [ctypes.c_char_p, size, doubles, size, doubles, size, doubles, size]
     lib.dimple_impact.argtypes = [ctypes.c_char_p, size, doubles, size, doubles, size]
     lib.dimple_height.argtypes = [ctypes.c_char_p, size, ctypes.c_double, ctypes.c_double, doubles, size]
@@ -132,7 +134,7 @@ def _library():
     lib.dimple_shelf_save.argtypes = [doubles, size, ctypes.c_char_p, size, doubles, size]
     lib.dimple_shelf_return.argtypes = [doubles, size, ctypes.c_char_p, size, doubles, size]
     lib.dimple_shelf_drop.argtypes = [doubles, size, ctypes.c_char_p, size]
-    for door in ("settle", "step", "impact", "height", "board_new", "board_enter", "board_place", "shelf_new", "shelf_save", "shelf_return", "shelf_drop"):
+    for door in ("settle", "card", "step", "impact", "height", "board_new", "board_enter", "board_place", "shelf_new", "shelf_save", "shelf_return", "shelf_drop"):
         getattr(lib, f"dimple_{door}").restype = ctypes.c_uint32
     return lib
 
@@ -170,7 +172,11 @@ def settle(course, landing, physics=Physics(), ball=TOUR, air_density=1.225, ste
     data = settle_input(course, landing, physics, ball, air_density, step_limit)
     lc, lp, result = _doubles(20 * contacts), _doubles(11 * points), _doubles(19)
     answer = _call("dimple_settle", data, len(data), lc, len(lc), lp, len(lp), result, len(result))
-    if 0 < answer < 20:
+    return _run(answer, lc, lp, result)
+
+
+def _run(answer, lc, lp, result):
+    if 0 < answer < 20 or answer == 30:
         raise Refused(answer)
     r = list(result)
     nc, np = int(r[2]), int(r[3])
@@ -179,6 +185,17 @@ def settle(course, landing, physics=Physics(), ball=TOUR, air_density=1.225, ste
     if answer:
         raise Stopped(answer, run)
     return run
+
+
+def card(course, landing, physics=Physics(), ball=TOUR, air_density=1.225, step_limit=1_000_000, contacts=256, points=16384):
+    """The run of a landing to its end, printed: a heading, then a line of 60 bytes for each contact, with its number, time in milliseconds and x, y, z
+    in centimetres."""
+    data = settle_input(course, landing, physics, ball, air_density, step_limit)
+    lc, lp, result = _doubles(20 * contacts), _doubles(11 * points), _doubles(19)
+    page = ctypes.create_string_buffer(60 * (1 + contacts))
+    answer = _call("dimple_card", data, len(data), lc, len(lc), lp, len(lp), result, len(result), page, len(page))
+    run = _run(answer, lc, lp, result)
+    return page.raw[:60 * (1 + len(run.contacts))].decode("ascii")
 
 
 def _state(d):

@@ -8,7 +8,16 @@ use std::cmp::Ordering;
 #[cfg(has_dimple_board_enter)]
 unsafe extern "C" {
     fn dimple_board_new(pin_x: f64, pin_z: f64, board: *mut f64, len: usize) -> u32;
-    fn dimple_board_enter(board: *mut f64, len: usize, bay: u32, shot: u32, termination: u32, contacts: u32, x: f64, z: f64) -> u32;
+    fn dimple_board_enter(
+        board: *mut f64,
+        len: usize,
+        bay: u32,
+        shot: u32,
+        termination: u32,
+        contacts: u32,
+        x: f64,
+        z: f64,
+    ) -> u32;
     fn dimple_board_place(board: *const f64, len: usize, place: u64, shot: *mut f64, shot_len: usize) -> u32;
 }
 
@@ -36,7 +45,9 @@ fn order(pin: (f64, f64), e: &Entry, f: &Entry) -> Ordering {
         let (dx, dz) = (e.x - pin.0, e.z - pin.1);
         dx * dx + dz * dz
     };
-    moving(e).cmp(&moving(f)).then(key(e).partial_cmp(&key(f)).expect("keys are numbers"))
+    moving(e)
+        .cmp(&moving(f))
+        .then(key(e).partial_cmp(&key(f)).expect("keys are numbers"))
         .then(e.contacts.cmp(&f.contacts))
         .then(e.shot.cmp(&f.shot))
 }
@@ -157,7 +168,14 @@ fn lent(l: &[f64], r: &mut Rng) -> Vec<f64> {
 #[cfg(has_dimple_board_enter)]
 mod doors {
     use super::*;
-    fn told(what: &'static str, c: &mut Counts, (got, after): (u32, Vec<f64>), (want, l): (u32, Vec<f64>), guard: &[f64], how: String) {
+    fn told(
+        what: &'static str,
+        c: &mut Counts,
+        (got, after): (u32, Vec<f64>),
+        (want, l): (u32, Vec<f64>),
+        guard: &[f64],
+        how: String,
+    ) {
         *c.answers.entry((what, want)).or_default() += 1;
         let expected = [&l[..], guard].concat();
         if got != want || !same(&after, &expected) {
@@ -224,8 +242,26 @@ mod doors {
 }
 
 const ODD: [f64; 20] = [
-    f64::NAN, f64::INFINITY, f64::NEG_INFINITY, -0.0, 0.0, 0.5, -1.0, 1.0, 3.0, 4.0, 7.0, 8.0, 255.0, 256.0, 257.0, 4294967295.0, 4294967296.0,
-    1e6, 1e300, 5e-324,
+    f64::NAN,
+    f64::INFINITY,
+    f64::NEG_INFINITY,
+    -0.0,
+    0.0,
+    0.5,
+    -1.0,
+    1.0,
+    3.0,
+    4.0,
+    7.0,
+    8.0,
+    255.0,
+    256.0,
+    257.0,
+    4294967295.0,
+    4294967296.0,
+    1e6,
+    1e300,
+    5e-324,
 ];
 
 fn random_pin(r: &mut Rng) -> (f64, f64) {
@@ -298,7 +334,10 @@ fn chain(r: &mut Rng, c: &mut Counts) -> Vec<f64> {
     }
     c.filled += u64::from(accepted.len() == 256);
     for i in 1..accepted.len() {
-        c.ties += accepted[..i].iter().any(|f| order(pin, &Entry { shot: 0, ..accepted[i] }, &Entry { shot: 0, ..*f }) == Ordering::Equal) as u64;
+        c.ties += accepted[..i]
+            .iter()
+            .any(|f| order(pin, &Entry { shot: 0, ..accepted[i] }, &Entry { shot: 0, ..*f }) == Ordering::Equal)
+            as u64;
     }
     l
 }
@@ -356,7 +395,14 @@ fn damaged(r: &mut Rng, c: &mut Counts, mut l: Vec<f64>) {
             // any listing, in no order, with repeats
             l[2] = r.below(257) as f64;
             for e in l[3..].chunks_mut(WIDTH) {
-                e.copy_from_slice(&[r.below(30) as f64, r.below(8) as f64, (1 + r.below(3)) as f64, r.below(4) as f64, r.range(-5.0, 5.0).round(), r.range(-5.0, 5.0).round()]);
+                e.copy_from_slice(&[
+                    r.below(30) as f64,
+                    r.below(8) as f64,
+                    (1 + r.below(3)) as f64,
+                    r.below(4) as f64,
+                    r.range(-5.0, 5.0).round(),
+                    r.range(-5.0, 5.0).round(),
+                ]);
             }
         }
         _ => {
@@ -400,6 +446,9 @@ pub fn run(seed: u64, calls: u64, n: u64) {
         println!("{door:12} {answer:4} {n:10}");
     }
     let calls = total.answers.values().sum::<u64>();
-    println!("{calls} calls; {} accepted entries level with an earlier one but for the shot number; {} boards filled, 32 a bay", total.ties, total.filled);
+    println!(
+        "{calls} calls; {} accepted entries level with an earlier one but for the shot number; {} boards filled, 32 a bay",
+        total.ties, total.filled
+    );
     println!("{} sets entered in two orders", total.orders);
 }

@@ -1,6 +1,7 @@
 //! Holds libcapi and libprobe against the reference, bit for bit. See README.md.
 
 mod board;
+mod card;
 mod faults;
 #[cfg(all(has_guess_root, has_guess_look))]
 mod guesses;
@@ -26,6 +27,19 @@ unsafe extern "C" {
         points_len: usize,
         result: *mut f64,
         result_len: usize,
+    ) -> u32;
+    #[cfg(has_dimple_card)]
+    fn dimple_card(
+        input: *const u8,
+        input_len: usize,
+        contacts: *mut f64,
+        contacts_len: usize,
+        points: *mut f64,
+        points_len: usize,
+        result: *mut f64,
+        result_len: usize,
+        page: *mut u8,
+        page_len: usize,
     ) -> u32;
     fn dimple_step(
         sheet: *const u8,
@@ -87,6 +101,31 @@ pub fn lib_settle(input: &[u8], contacts: &mut [f64], points: &mut [f64], result
             result.len(),
         )
     }
+}
+
+#[cfg(has_dimple_card)]
+pub fn lib_card(input: &[u8], contacts: &mut [f64], points: &mut [f64], result: &mut [f64], page: &mut [u8]) -> u32 {
+    unsafe {
+        dimple_card(
+            input.as_ptr(),
+            input.len(),
+            contacts.as_mut_ptr(),
+            contacts.len(),
+            points.as_mut_ptr(),
+            points.len(),
+            result.as_mut_ptr(),
+            result.len(),
+            page.as_mut_ptr(),
+            page.len(),
+        )
+    }
+}
+
+/// The mock library has no card.
+#[cfg(not(has_dimple_card))]
+pub fn lib_card(_: &[u8], _: &mut [f64], _: &mut [f64], _: &mut [f64], _: &mut [u8]) -> u32 {
+    println!("the library has no dimple_card: build with --libs");
+    std::process::exit(2);
 }
 
 pub fn lib_step(sheet: &[u8], physics: &[f64], ball: &[f64], state: &mut [f64]) -> u32 {
@@ -191,11 +230,14 @@ impl Counts {
         self.cases += o.cases;
         self.steps += o.steps;
     }
-    fn print(&self) {
+    fn print_answers(&self) {
         println!("cases {} steps {}", self.cases, self.steps);
         let a: Vec<String> = self.answers.iter().enumerate().filter(|(_, n)| **n > 0).map(|(i, n)| format!("{i}: {n}")).collect();
         println!("answers {}", a.join(", "));
         println!("terminations rest {} time {} impacts {}", self.terminations[1], self.terminations[2], self.terminations[3]);
+    }
+    fn print(&self) {
+        self.print_answers();
         println!("branches (runs that reached each):");
         for (i, name) in HIT_NAMES.iter().enumerate() {
             println!("  {name:26} {}", self.hits[i]);
@@ -424,6 +466,7 @@ fn main() {
     let n = value("--threads", 2).max(1);
     match args.first().map(String::as_str) {
         Some("settle") => settle_mode(seed, value("--shots", 100_000), n),
+        Some("card") => card::run(seed, value("--cards", 100_000), n),
         Some("doors") => doors_mode(seed, value("--cases", 200_000), n),
         Some("board") => board::run(seed, value("--calls", 500_000), n),
         Some("leaves") => leaves::run(seed, value("--share", 100), n, args.get(1).map_or("", |a| a.as_str())),
@@ -434,7 +477,7 @@ fn main() {
         Some("unpatched") => unpatched::run(seed, value("--shots", 100_000), n),
         _ => {
             println!(
-                "compare settle [--shots N] | doors [--cases N] | board [--calls N] | leaves [NAME] [--share PERCENT] | shelf [--calls N] | replay [FILE] | speed | faults | unpatched [--shots N]"
+                "compare settle [--shots N] | doors [--cases N] | board [--calls N] | card [--cards N] | leaves [NAME] [--share PERCENT] | shelf [--calls N] | replay [FILE] | speed | faults | unpatched [--shots N]"
             );
             println!("        [--seed N] [--threads N] [--first]");
             std::process::exit(2);

@@ -1,4 +1,5 @@
 pub mod Doors
+pub mod Cards
 pub mod Boards
 pub mod Entered
 pub mod Chain

@@ -1,8 +1,9 @@
-// What other languages call. Lengths count doubles, or bytes for a sheet and an input. Every call is taken and answered; 100 and up are these
+// What other languages call. Lengths count doubles, or bytes for a sheet, an input and a page. Every call is taken and answered; 100 and up are these
 // functions' own answers.
 ghost use mathlib.Core.Path.{_≡_};
 ghost use lib.ListN.{length};
 ghost use Rattle.capi.specs.Doors.{reported, stepped, struck, door, settleDoor, settleDoorOf, stepDoorOf, impactDoorOf, heightDoorOf};
+ghost use Rattle.capi.specs.Cards.{cardDoor, cardDoorOf};
 ghost use Rattle.layout.specs.Layout.{boardLength, boardAt};
 ghost use Rattle.capi.specs.Boards.{entered, sentOf, newDoorOf, enterDoorOf, placeDoorOf};
 ghost use Rattle.shelf_layout.specs.Doors.{answered, shelfNewDoorOf, shelfSaveDoorOf, shelfReturnDoorOf, shelfDropDoorOf};
@@ -60,6 +61,21 @@ pub extern "C" fn dimple_settle(
     ensures { λ r. ⌜ settleDoor r (now (contacts .exit)) (now (points .exit)) (now (result .exit)) ≡ settleDoorOf (now (input .entry)) (now (contacts .entry)) (now (points .entry)) (now (result .entry)) ⌝ }
 {
     let s = input::settle_input(input, contacts, points);
+    write_result(result, s);
+    s.answer
+}
+
+#[no_mangle]
+pub extern "C" fn dimple_card(
+    input: &[u8],
+    contacts: &mut [f64],
+    points: &mut [f64],
+    result: &mut [f64],
+    page: &mut [u8],
+) -> u32
+    ensures { λ r. ⌜ cardDoor r (now (contacts .exit)) (now (points .exit)) (now (result .exit)) (now (page .exit)) ≡ cardDoorOf (now (input .entry)) (now (contacts .entry)) (now (points .entry)) (now (result .entry)) (now (page .entry)) ⌝ }
+{
+    let s = card::card(input, contacts, points, page);
     write_result(result, s);
     s.answer
 }

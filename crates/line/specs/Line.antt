@@ -1,27 +1,15 @@
--- The line that the program settle prints (01, "Lists and the rest of the shop" and "Bench shots"), as bytes in ASCII.
-use Prim.Native.Nat.{ℕ, zero, suc, _+_, _/_, _%_, _≤_}
-use mathlib.Core.Path.{_≡_}
+-- Definitions. The line that the program settle prints (01, "Lists and the rest of the shop" and "Bench shots"), as bytes in ASCII.
+use Prim.Native.Nat.{ℕ}
 use mathlib.Core.Bool.{_&&_, cond}
 use mathlib.Core.List.{List, [], _∷_, _++_}
-use lib.Dec.{leb, ltb}
-use lib.ListN.{length, take, drop, replicate}
+use lib.Dec.{leb}
+use lib.ListN.{length, drop, replicate}
 use lib.Ieee.{Float}
 use Rattle.number.specs.Ops.{dec}
 use Rattle.ground.specs.declared.Settled.{Settled}
 use Rattle.state.specs.declared.Termination.{Termination}
-use Rattle.state.specs.declared.Termination.the-variants.{Nothing, Rest, MaxTime, MaxImpacts}
+use Rattle.text.specs.Text.{decimalOf, wordOf}
 use Rattle.input.specs.Input.{settleInputOf}
-
--- ---- numbers
-
--- the decimal digits of n, the most significant first: the last k digits, without leading zeros
-unfoldable pub decimalIn : ℕ → ℕ → List ℕ
-decimalIn zero n = []
-decimalIn (suc k) n = cond (ltb n 10) ((48 + n) ∷ []) (decimalIn k (n / 10) ++ ((48 + n % 10) ∷ []))
-
--- a u64 has at most 20
-unfoldable pub decimalOf : ℕ → List ℕ
-decimalOf n = decimalIn 20 n
 
 -- ---- words
 
@@ -47,10 +35,7 @@ lineEnd = 10 ∷ []
 
 -- " -" where nothing ended it (20 to 23), " rest", " time", " impacts"
 unfoldable pub terminationOf : Termination → List ℕ
-terminationOf Nothing = 32 ∷ 45 ∷ []
-terminationOf Rest = 32 ∷ 114 ∷ 101 ∷ 115 ∷ 116 ∷ []
-terminationOf MaxTime = 32 ∷ 116 ∷ 105 ∷ 109 ∷ 101 ∷ []
-terminationOf MaxImpacts = 32 ∷ 105 ∷ 109 ∷ 112 ∷ 97 ∷ 99 ∷ 116 ∷ 115 ∷ []
+terminationOf t = (32 ∷ []) ++ wordOf t
 
 -- " contacts C points P steps S"
 unfoldable pub countsOf : ℕ → ℕ → ℕ → List ℕ
@@ -84,17 +69,3 @@ wrote n l = record { count = n; bytes = l }
 -- the line at the start of l, and what stands past it as it was
 unfoldable pub writtenLine : List ℕ → List ℕ → Wrote
 writtenLine input l = let t = lineOf input in wrote (length t) (t ++ drop (length t) l)
-
--- ---- what inner functions give
-
--- t is written from index o of l on: m is what stands then, and r the index after it
-pub record Adds (l : List ℕ) (o : ℕ) (t : List ℕ) (r : ℕ) (m : List ℕ) : Type 0 where
-  pub next : r ≡ o + length t
-  pub same : m ≡ take o l ++ (t ++ drop r l)
-  pub fits : r ≤ length l
-  pub long : length m ≡ length l
-
--- the same, with at most w bytes
-pub record Puts (w : ℕ) (l : List ℕ) (o : ℕ) (t : List ℕ) (r : ℕ) (m : List ℕ) : Type 0 where
-  pub adds : Adds l o t r m
-  pub most : length t ≤ w

@@ -140,6 +140,13 @@ module _ (sheet : List ℕ) (shot : Shot) (cs ps : List Float) where
       go true e = let l = settle-leaves sheet shot cs ps (eqb-true number 0 e) in rw (l .contacts-counted) (l .contacts-few)
       go false e = rw (refused-result (eqb-false number 0 e) .counts .0) zero-le
 
+  allowed : number ≡ 0 → max 1 (shot .physics .«max_impacts») ≤ 64
+  allowed h = max-le (omega arith) (at-most-64 (shot .physics) (shot .«step_limit») (settle-passes sheet shot (length cs) (length ps) h .physics))
+
+  -- so an accepted call pushes at most 64
+  pub most-contacts : number ≡ 0 → got .settled .contacts ≤ 64
+  most-contacts h = let a = allowed h in let f = few-contacts in omega (arith, a, f)
+
   -- 02, paper 5: "a contact list of 64 records or more can never bring number 20"
   pub never-20 : 64 ≤ length cs / 20 → got .settled .answer ≡ 20 → ⊥
   never-20 r h =
@@ -147,8 +154,7 @@ module _ (sheet : List ℕ) (shot : Shot) (cs ps : List Float) where
       let full = settle-leaves sheet shot cs ps a .contacts-full h in
       let i = full .0 in
       let j = full .1 in
-      let four = settle-passes sheet shot (length cs) (length ps) a .physics in
-      let k : max 1 (shot .physics .«max_impacts») ≤ 64 = max-le (omega arith) (at-most-64 (shot .physics) (shot .«step_limit») four) in
+      let k = allowed a in
       omega (arith, r, i, j, k)
 
   -- 01: "Result of a settle: the number": 0 comes from accepted calls alone

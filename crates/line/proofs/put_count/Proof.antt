@@ -1,6 +1,6 @@
 -- `put_count` writes a word and a number.
 use borrow.Author.Needs.{needs}
-use Rattle.line.proofs.Laws.{before}
+use Rattle.text.specs.Laws.{before}
 use Rattle.line.proofs.put_count.Statement.{statement}
 use Rattle.line.proofs.put_count.Tie as tie
 

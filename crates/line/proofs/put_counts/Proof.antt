@@ -1,13 +1,17 @@
 -- `put_counts` writes the three counts.
 use borrow.Author.Needs.{needs}
 use Rattle.line.specs.Line.{countsOf}
-use Rattle.line.proofs.Laws.{both}
+use Rattle.text.specs.Laws.{both}
 use Rattle.line.proofs.put_counts.Statement.{statement}
 use Rattle.line.proofs.put_counts.Tie as tie
 
 returns : tie.Need-returns
 unfolding countsOf
-returns c = both (both (c .before .before .before .before .before .before .before .before .before .before .before .before .put-count .ensures) (c .before .before .before .before .before .before .before .put-count2 .ensures)) (c .before .before .put-count3 .ensures)
+returns c =
+    let at-out2 = c .before .before .before .before .before .before in
+    let at-put-count2 = at-out2 .before in
+    let at-put-count = at-put-count2 .before .before .before .before .before in
+    both (both (at-put-count .put-count .ensures) (at-put-count2 .put-count2 .ensures)) (c .before .before .put-count3 .ensures)
 
 pub put-counts-spec : {M : Type 1} → statement M
 put-counts-spec =

@@ -3,12 +3,13 @@ use Prim.Native.Nat.{ℕ}
 use native.Mathlib.Omega.{arith}
 use mathlib.Core.Path.{_≡_}
 use mathlib.Core.Bool.{true, false, _&&_}
-use mathlib.Core.List.{List, _++_}
+use mathlib.Core.List.{List, [], _∷_, _++_}
 use lib.Dec.{leb}
 use borrow.Author.Needs.{needs}
 use Rattle.ground.specs.declared.Settled.{Settled}
-use Rattle.line.specs.Line.{Adds, Puts, answerWord, lineEnd, decimalOf, terminationOf, countsOf, shownOf}
-use Rattle.line.proofs.Laws.{wide, after, both}
+use Rattle.text.specs.Text.{Adds, Puts, decimalOf, wordOf}
+use Rattle.line.specs.Line.{answerWord, lineEnd, terminationOf, countsOf, shownOf}
+use Rattle.text.specs.Laws.{wide, before, after, both}
 use Rattle.line.proofs.put_settled.Statement.{statement}
 use Rattle.line.proofs.put_settled.Tie as tie
 
@@ -17,15 +18,30 @@ module _ (s : Settled) {l m : List ℕ} {a : ℕ} (x : Puts 27 l 0 (answerWord +
   unfolding shownOf
   short e y = rw e (wide {w = 28} (omega arith) (after x y))
 
-  whole : (leb 1 (s .answer) && leb (s .answer) 12) ≡ false → {k j n : List ℕ} {b c r : ℕ} → Puts 8 m a (terminationOf (s .termination)) b k → Puts 85 k b (countsOf (s .contacts) (s .points) (s .steps)) c j → Adds j c lineEnd r n → Puts 128 l 0 (shownOf s) r n
-  unfolding shownOf
-  whole e t u y = rw e (wide {w = 121} (omega arith) (after (both (both x t) u) y))
+  whole : (leb 1 (s .answer) && leb (s .answer) 12) ≡ false → {i k j n : List ℕ} {b d c r : ℕ} → Adds m a (32 ∷ []) b i → Puts 7 i b
+      (wordOf (s .termination)) d k
+      → Puts 85 k d (countsOf (s .contacts) (s .points) (s .steps)) c j → Adds j c lineEnd r n → Puts 128 l 0 (shownOf s) r n
+  unfolding shownOf terminationOf
+  whole e w t u y = rw e (wide {w = 121} (omega arith) (after (both (both x (before w t)) u) y))
 
 returns : tie.Need-returns
-returns c = short (c .before .before .before .before .before .before .before .before .before .before .before .before .before .before .before .args .s) (c .before .before .before .before .before .before .before .before .before .before .put-count .ensures) (c .before .before .before .before .before .if1 .taken) (c .before .before .put .ensures)
+returns c =
+    let at-if1 = c .before .before .before .before .before in
+    let at-put-count = at-if1 .before .before .before .before .before in
+    let at-start = at-put-count .before .before .before .before .before in
+    short (at-start .args .s) (at-put-count .put-count .ensures) (at-if1 .if1 .taken) (c .before .before .put .ensures)
 
 returns-2 : tie.Need-returns-2
-returns-2 c = whole (c .before .before .before .before .before .before .before .before .before .before .before .before .before .before .before .before .before .before .before .before .before .before .before .args .s) (c .before .before .before .before .before .before .before .before .before .before .before .before .before .before .before .before .before .before .put-count .ensures) (c .before .before .before .before .before .before .before .before .before .before .before .before .before .if1 .left) (c .before .before .before .before .before .before .before .before .before .before .before .put-termination .ensures) (c .before .before .before .before .before .before .before .put-counts .ensures) (c .before .before .put2 .ensures)
+returns-2 c =
+    let at-out5 = c .before .before .before .before .before .before in
+    let at-put-counts = at-out5 .before in
+    let at-put-termination = at-put-counts .before .before .before .before in
+    let at-put2 = at-put-termination .before .before .before .before in
+    let at-if1 = at-put2 .before .before .before in
+    let at-put-count = at-if1 .before .before .before .before .before in
+    let at-start = at-put-count .before .before .before .before .before in
+    whole (at-start .args .s) (at-put-count .put-count .ensures) (at-if1 .if1 .left) (at-put2 .put2 .ensures)
+    (at-put-termination .put-termination .ensures) (at-put-counts .put-counts .ensures) (c .before .before .put3 .ensures)
 
 pub put-settled-spec : {M : Type 1} → statement M
 put-settled-spec =
@@ -38,6 +54,8 @@ put-settled-spec =
     (λ c κs. search needs)
     (λ c. search needs)
     returns
+    (λ c. search needs)
+    (λ c κs. search needs)
     (λ c κs. search needs)
     (λ c κs. search needs)
     (λ c. search needs)

@@ -9,7 +9,8 @@ use borrow.Author.Needs.{needs}
 use Rattle.ground.specs.Settle.{Result, result}
 use Rattle.ground.specs.declared.Settled.{Settled}
 use Rattle.input.specs.Input.{settleInputOf}
-use Rattle.line.specs.Line.{Puts, nought, shownOf, lineOf, wrote, writtenLine}
+use Rattle.text.specs.Text.{Puts}
+use Rattle.line.specs.Line.{nought, shownOf, lineOf, wrote, writtenLine}
 use Rattle.line.proofs.write_line.Statement.{statement}
 use Rattle.line.proofs.write_line.Tie as tie
 
@@ -17,7 +18,8 @@ zero : ofBits binary64 0 ≡ nought
 unfolding ofBits round
 zero = refl
 
-line-of : (input : List ℕ) {s : Settled} {cs ps : List Float} → result s cs ps ≡ settleInputOf input (replicate 1280 (ofBits binary64 0)) (replicate 7040 (ofBits binary64 0)) → shownOf s ≡ lineOf input
+line-of : (input : List ℕ) {s : Settled} {cs ps : List Float}
+    → result s cs ps ≡ settleInputOf input (replicate 1280 (ofBits binary64 0)) (replicate 7040 (ofBits binary64 0)) → shownOf s ≡ lineOf input
 unfolding lineOf
 line-of input e = ap (λ (w : Result). shownOf (w .settled)) e ∙ rw zero
 
@@ -27,8 +29,10 @@ written input l m r e x = rw (x .adds .same, x .adds .next, e, zero-add)
 
 returns : tie.Need-returns
 returns c =
-    let i = c .before .before .before .before .before .before .before .before .args .input .now in
-    written i _ _ _ (line-of i (c .before .before .before .before .settle-input .ensures)) (c .put-settled .ensures)
+    let at-settle-input = c .before .before .before .before in
+    let at-start = at-settle-input .before .before .before .before in
+    let i = at-start .args .input .now in
+    written i _ _ _ (line-of i (at-settle-input .settle-input .ensures)) (c .put-settled .ensures)
 
 pub write-line-spec : {M : Type 1} → statement M
 write-line-spec =

@@ -8,7 +8,7 @@ use lib.Dec.{ltb}
 use mathlib.Core.List.{[], _∷_}
 use borrow.Author.Tests.{lt-ltb, le-ltb, ltb-true, ltb-false}
 use Rattle.io.specs.Digits.{digits, Fewest, glyph}
-use Rattle.line.specs.Line.{decimalIn}
+use Rattle.text.specs.Text.{decimalIn}
 
 digit : (d : ℕ) → d < 10 → glyph d ≡ 48 + d
 digit d h = rw (lt-ltb d 10 h)
@@ -29,7 +29,15 @@ fewest (suc f) (suc (suc j)) n h w =
     let ten : 10 ≤ n = omega arith in
     let top : n < 10 ^ suc j * 10 = subst (λ (x : ℕ). n < x) (pow-suc 10 (suc j)) (w .1) in
     let p : 0 < 10 = omega arith in
-    rw (le-ltb n 10 ten, digit (n % 10) (mod-lt n p), fewest f (suc j) (n / 10) (omega arith) (omega arith, div-lt-iff-lt-mul p .1 top, λ _. subst (λ (x : ℕ). 10 ^ x ≤ n / 10) d (le-div-iff-mul-le p .1 low)))
+    rw (
+      le-ltb n 10 ten,
+      digit (n % 10) (mod-lt n p),
+      fewest f (suc j) (n / 10) (omega arith) (
+        omega arith,
+        div-lt-iff-lt-mul p .1 top,
+        λ _. subst (λ (x : ℕ). 10 ^ x ≤ n / 10) d (le-div-iff-mul-le p .1 low),
+      ),
+    )
 
 -- a u64 takes at most 20
 pub few : (n k : ℕ) → n < 18446744073709551616 → Fewest 10 1 n k → k ≤ 20

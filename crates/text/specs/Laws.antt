@@ -1,11 +1,11 @@
--- Words written one after another. Assumes nothing.
-use Prim.Native.Nat.{ℕ, _+_, _≤_}
+-- Lemmas. Words written one after another. Assumes nothing.
+use Prim.Native.Nat.{ℕ, _+_, _-_, _≤_}
 use native.Mathlib.Omega.{arith}
 use mathlib.Core.Path.{_≡_, refl, ap, _∙_, sym}
 use mathlib.Core.List.{List, _++_, append-assoc}
 use lib.ListN.{length, take, drop, length-append}
 use lib.Seq.{paste, take-length, length-paste, length-take-le, take-at, drop-at, drop-drop}
-use Rattle.line.specs.Line.{Adds, Puts}
+use Rattle.text.specs.Text.{Adds, Puts, Fills, blanks, rightOf}
 
 -- one word
 pub adds : (l : List ℕ) (o : ℕ) (t : List ℕ) → o + length t ≤ length l → Adds l o t (o + length t) (paste l o t (length t))
@@ -25,7 +25,7 @@ module _ {l m t : List ℕ} {a b : ℕ} (x : Adds l a t b m) where
   split = x .same ∙ sym (append-assoc (take a l) t (drop b l))
 
   -- what stands up to the end of a word, and past it
-  up-to : take b m ≡ take a l ++ t
+  pub up-to : take b m ≡ take a l ++ t
   up-to = ap (take b) split ∙ take-at (take a l ++ t) (drop b l) b head
 
   past : (c k : ℕ) → c ≡ b + k → drop c m ≡ drop c l
@@ -41,7 +41,8 @@ pub then : {l m n t u : List ℕ} {a b c : ℕ} → Adds l a t b m → Adds m b 
 then {l} {m} {n} {t} {u} {a} {b} {c} x y =
     record {
       next = y .next ∙ ap (λ (k : ℕ). k + length u) (x .next) ∙ (omega (arith, length-append t u));
-      same = y .same ∙ ap (λ (z : List ℕ). z ++ (u ++ drop c m)) (up-to x) ∙ ap (λ (z : List ℕ). (take a l ++ t) ++ (u ++ z)) (past x c (length u) (y .next)) ∙ simp append-assoc;
+      same = y .same ∙ ap (λ (z : List ℕ). z ++ (u ++ drop c m)) (up-to x)
+          ∙ ap (λ (z : List ℕ). (take a l ++ t) ++ (u ++ z)) (past x c (length u) (y .next)) ∙ simp append-assoc;
       fits = let f = y .fits in let k = x .long in omega arith;
       long = y .long ∙ x .long;
     }
@@ -59,3 +60,21 @@ after {t = t} {u = u} x y = record { adds = then (x .adds) y; most = let k = x .
 
 pub both : {v w : ℕ} {l m n t u : List ℕ} {a b c : ℕ} → Puts w l a t b m → Puts v m b u c n → Puts (w + v) l a (t ++ u) c n
 both {t = t} {u = u} x y = record { adds = then (x .adds) (y .adds); most = let k = x .most in let j = y .most in omega (arith, length-append t u) }
+
+-- columns of v and w bytes
+pub fills : {v w : ℕ} {l m n t u : List ℕ} {a b c : ℕ} → Fills v l a t b m → Fills w m b u c n → Fills (v + w) l a (t ++ u) c n
+fills {t = t} {u = u} x y = record { adds = then (x .adds) (y .adds); wide = let k = x .wide in let j = y .wide in omega (arith, length-append t u) }
+
+-- a column of w bytes ends w places on
+pub next : {w : ℕ} {l t m : List ℕ} {o r : ℕ} → Fills w l o t r m → r ≡ o + w
+next x = let k = x .wide in let j = x .adds .next in omega arith
+
+-- text at the start
+pub starts : {l t m : List ℕ} {r : ℕ} → Adds l 0 t r m → take r m ≡ t
+starts x = up-to x
+
+-- spaces, then a word: right-aligned
+pub right : {w : ℕ} {l m n t : List ℕ} {a b c : ℕ} → length t ≤ w → Fills (w - length t) l a (blanks (w - length t)) b m
+    → Adds m b t c n → Fills w l a (rightOf w t) c n
+unfolding rightOf
+right {w} {t = t} h x y = record { adds = then (x .adds) y; wide = let k = x .wide in omega (arith, length-append (blanks (w - length t)) t) }

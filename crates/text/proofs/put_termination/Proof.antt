@@ -1,24 +1,24 @@
 -- `put_termination` writes the word of each case.
 use native.Mathlib.Omega.{arith}
 use borrow.Author.Needs.{needs}
-use Rattle.line.specs.Line.{terminationOf}
-use Rattle.line.proofs.put_termination.Statement.{statement}
-use Rattle.line.proofs.put_termination.Tie as tie
+use Rattle.text.specs.Text.{wordOf}
+use Rattle.text.proofs.put_termination.Statement.{statement}
+use Rattle.text.proofs.put_termination.Tie as tie
 
 returns : tie.Need-returns
-unfolding terminationOf
+unfolding wordOf
 returns c = rw (c .before .before .before .before .before .enum-told .given .1) (record { adds = c .before .before .put .ensures; most = omega arith })
 
 returns-2 : tie.Need-returns-2
-unfolding terminationOf
+unfolding wordOf
 returns-2 c = rw (c .before .before .before .before .before .enum-told2 .given .1) (record { adds = c .before .before .put2 .ensures; most = omega arith })
 
 returns-3 : tie.Need-returns-3
-unfolding terminationOf
+unfolding wordOf
 returns-3 c = rw (c .before .before .before .before .before .enum-told3 .given .1) (record { adds = c .before .before .put3 .ensures; most = omega arith })
 
 returns-4 : tie.Need-returns-4
-unfolding terminationOf
+unfolding wordOf
 returns-4 c = rw (c .before .before .before .before .before .enum-told4 .given .1) (record { adds = c .before .before .put4 .ensures; most = omega arith })
 
 pub put-termination-spec : {M : Type 1} → statement M

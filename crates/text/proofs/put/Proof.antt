@@ -5,9 +5,9 @@ use native.Mathlib.Numerals.{add-one}
 use mathlib.Core.Path.{_≡_, refl}
 use lib.ListN.{length, length-set}
 use lib.Seq.{paste, paste-zero, paste-suc}
-use Rattle.line.proofs.Laws.{adds}
-use Rattle.line.proofs.put.Statement.{statement}
-use Rattle.line.proofs.put.Tie as tie
+use Rattle.text.specs.Laws.{adds}
+use Rattle.text.proofs.put.Statement.{statement}
+use Rattle.text.proofs.put.Tie as tie
 
 abbrev Inv-loop : tie.InvT-loop
 Inv-loop out₀ at word i₀ out i = (out ≡ paste out₀ at word i) × (i ≤ length word) × (length out ≡ length out₀)
@@ -37,7 +37,8 @@ loop-again : tie.Need-loop-again Inv-loop μ-loop
 loop-again c =
     let a = c .before .before .before .args in
     let h : a .at + c .before .before .loop .i < length (a .out .now) = omega arith in (
-      rw (c .before .before .loop .inv .0, add-one) (paste-suc (a .out .now) (a .at) (a .word .now) (c .before .before .loop .i) 0 h (c .before .loop-test .taken)),
+      rw (c .before .before .loop .inv .0, add-one)
+          (paste-suc (a .out .now) (a .at) (a .word .now) (c .before .before .loop .i) 0 h (c .before .loop-test .taken)),
       omega arith,
       simp length-set (c .before .before .loop .inv .2),
     )

@@ -6,12 +6,13 @@ use mathlib.Core.List.{List}
 use lib.ListN.{length, take}
 use borrow.Author.Needs.{needs}
 use Rattle.io.specs.Digits.{digits, Fewest}
-use Rattle.line.specs.Line.{Adds, Puts, decimalOf}
-use Rattle.line.proofs.Digits.{fewest, few}
-use Rattle.line.proofs.put_number.Statement.{statement}
-use Rattle.line.proofs.put_number.Tie as tie
+use Rattle.text.specs.Text.{Adds, Puts, decimalOf}
+use Rattle.text.proofs.Digits.{fewest, few}
+use Rattle.text.proofs.put_number.Statement.{statement}
+use Rattle.text.proofs.put_number.Tie as tie
 
-number : (xs : List ℕ) (k n : ℕ) {l m : List ℕ} {o r : ℕ} → Adds l o (take k xs) r m → take k xs ≡ digits 10 k n → Fewest 10 1 n k → k ≤ 20 → k ≡ length (take k xs) → Puts 20 l o (decimalOf n) r m
+number : (xs : List ℕ) (k n : ℕ) {l m : List ℕ} {o r : ℕ} → Adds l o
+    (take k xs) r m → take k xs ≡ digits 10 k n → Fewest 10 1 n k → k ≤ 20 → k ≡ length (take k xs) → Puts 20 l o (decimalOf n) r m
 unfolding decimalOf
 number xs k n {l} {m} {o} {r} x e w h s =
     let d = e ∙ fewest 20 k n h w in
@@ -19,7 +20,8 @@ number xs k n {l} {m} {o} {r} x e w h s =
 
 put-requires : tie.Need-put-requires
 put-requires c κs =
-    let a = c .before .before .before .before .before in
+    let at-start = c .before .before .before .before .before in
+    let a = at-start in
     let d = c .before .before .decimal in
     let e = d .ensures .0 .1 in
     let k = few (a .args .n) (d .result) (a .fits .n .fits) (d .ensures .1 .0) in
@@ -27,9 +29,12 @@ put-requires c κs =
 
 returns : tie.Need-returns
 returns c =
-    let a = c .before .before .before .before .before .before .before .before in
-    let d = c .before .before .before .before .before .decimal in
-    number _ (d .result) (a .args .n) (c .before .before .put .ensures) (d .ensures .1 .1) (d .ensures .1 .0) (few (a .args .n) (d .result) (a .fits .n .fits) (d .ensures .1 .0)) (d .ensures .0 .1)
+    let at-decimal = c .before .before .before .before .before in
+    let at-start = at-decimal .before .before .before in
+    let a = at-start in
+    let d = at-decimal .decimal in
+    number _ (d .result) (a .args .n) (c .before .before .put .ensures) (d .ensures .1 .1) (d .ensures .1 .0)
+    (few (a .args .n) (d .result) (a .fits .n .fits) (d .ensures .1 .0)) (d .ensures .0 .1)
 
 pub put-number-spec : {M : Type 1} → statement M
 put-number-spec =

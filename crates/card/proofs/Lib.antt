@@ -1,0 +1,2 @@
+mod Written
+mod Made
