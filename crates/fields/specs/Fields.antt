@@ -21,9 +21,9 @@ unfoldable pub natOf : Float → ℕ
 natOf x =
     cond (lt (neg (dec 1 1)) x && lt x (dec 18446744073709551616 1)) (cond (leb (toUnsigned 64 x) 4294967295) (toUnsigned 64 x) 0) 0
 
--- x is, by value, a whole number from 0 to n
-unfoldable pub isWhole : ℕ → Float → Bool
-isWhole n x = eq x (wholeOf (natOf x)) && leb (natOf x) n
+-- x is, by value, a whole number from m to n
+unfoldable pub isWhole : ℕ → ℕ → Float → Bool
+isWhole m n x = eq x (wholeOf (natOf x)) && (leb m (natOf x) && leb (natOf x) n)
 
 -- the double at an index
 abbrev pub doubleAt : List Float → ℕ → Float

@@ -52,6 +52,8 @@ module _ (n : ℕ) (h : n ≤ 4294967295) where
       let b = is-true (lt (wholeOf n) (dec 18446744073709551616 1)) below in
       rw (a, b, cut, is-true (leb n 4294967295) (le→leb n 4294967295 h))
 
-  pub whole-is-whole : (m : ℕ) → n ≤ m → isWhole m (wholeOf n) ≡ true
+  pub whole-is-whole : (l m : ℕ) → l ≤ n → n ≤ m → isWhole l m (wholeOf n) ≡ true
   unfolding isWhole
-  whole-is-whole m k = rw (nat-whole, is-true (eq (wholeOf n) (wholeOf n)) (eq-self (wholeOf n) whole-finite), is-true (leb n m) (le→leb n m k))
+  whole-is-whole l m j k =
+      let e = is-true (eq (wholeOf n) (wholeOf n)) (eq-self (wholeOf n) whole-finite) in
+      rw (nat-whole, e, is-true (leb l n) (le→leb l n j), is-true (leb n m) (le→leb n m k))

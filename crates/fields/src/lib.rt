@@ -31,13 +31,13 @@ pub fn nat_of(x: f64) -> u32
     0
 }
 
-// Whether x is a whole number from 0 to `most`.
-pub fn is_whole(x: f64, most: u32) -> bool
-    ensures { λ r. ⌜ r ≡ isWhole most x ⌝ }
+// Whether x is a whole number from `least` to `most`.
+pub fn is_whole(x: f64, least: u32, most: u32) -> bool
+    ensures { λ r. ⌜ r ≡ isWhole least most x ⌝ }
 {
     let n = nat_of(x);
     let y = whole(n as u64);
-    (x == y) & (n <= most)
+    (x == y) & ((least <= n) & (n <= most))
 }
 
 pub fn vec_at(s: &[f64], o: usize) -> DVec3

@@ -8,7 +8,7 @@ use lib.ListN.{getD}
 use lib.Ieee.{Float, neg, lt, eq, toUnsigned}
 use Rattle.number.specs.Ops.{dec}
 use Rattle.number.specs.Number.{aboutOf}
-use Rattle.fields.specs.Fields.{wholeOf, doubleAt}
+use Rattle.fields.specs.Fields.{wholeOf, natOf, isWhole, doubleAt}
 use Rattle.state.specs.declared.Termination.{Termination}
 use Rattle.state.specs.declared.Termination.the-variants.{Nothing, Rest, MaxTime, MaxImpacts}
 use Rattle.board.specs.declared.Board.{Board}
@@ -24,15 +24,6 @@ start i = 3 + width * i
 
 abbrev pub boardLength : ℕ
 boardLength = start 256
-
--- the whole part of a double, or 0 where that is no u32
-unfoldable pub natOf : Float → ℕ
-natOf x =
-    cond (lt (neg (dec 1 1)) x && lt x (dec 18446744073709551616 1)) (cond (leb (toUnsigned 64 x) 4294967295) (toUnsigned 64 x) 0) 0
-
--- x is, by value, a whole number from m to n
-unfoldable pub isWhole : ℕ → ℕ → Float → Bool
-isWhole m n x = eq x (wholeOf (natOf x)) && (leb m (natOf x) && leb (natOf x) n)
 
 -- the number of a termination: 0 none, 1 rest, 2 time, 3 impacts, as in a settle's result
 unfoldable pub numberOf : Termination → ℕ

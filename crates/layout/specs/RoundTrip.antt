@@ -18,7 +18,8 @@ use lib.Ieee.Order.{round-mono}
 use Rattle.number.specs.Ops.{dec}
 use Rattle.number.specs.Number.{aboutOf, withinOf, finiteOf}
 use Rattle.number.specs.Order.{eq-self, lt-le-trans, le-lt-trans}
-use Rattle.fields.specs.Fields.{wholeOf, doubleAt}
+use Rattle.fields.specs.Fields.{wholeOf, natOf, isWhole, doubleAt}
+use Rattle.fields.specs.WholeBack.{nat-whole, whole-is-whole}
 use Rattle.state.specs.declared.Termination.{Termination}
 use Rattle.state.specs.declared.Termination.the-variants.{Nothing, Rest, MaxTime, MaxImpacts}
 use Rattle.board.specs.declared.Board.{Board}
@@ -31,53 +32,8 @@ use Rattle.board.specs.Sorting.{all-insert}
 use Rattle.board.specs.Bays.{InBay}
 use Rattle.board.specs.Tests.{Tested, no-bay, far, repeated, full, taken, tested, is-near}
 use Rattle.board.specs.Listing.{Sound, with-listing, with-sound}
-use Rattle.layout.specs.Layout.{width, start, boardLength, natOf, isWhole, numberOf, terminationOf, leastAt, entryOk, entryAt}
+use Rattle.layout.specs.Layout.{width, start, boardLength, numberOf, terminationOf, leastAt, entryOk, entryAt}
 use Rattle.layout.specs.Layout.{entriesOk, entriesAt, boardOk, boardAt, entryFields, entriesFields, boardFields}
-
--- ---- a whole number that a u32 holds, as a double and back
-module _ (n : ℕ) (h : n ≤ 4294967295) where
-  whole-finite : T (finiteOf (wholeOf n))
-  unfolding ofInt
-  whole-finite = go (round binary64 false n 1) (round-whole binary64 false n (omega arith))
-    where
-      go : (x : Float) → HasValue x false n 1 → T (finiteOf x)
-      go nan v = v
-      go (inf s) v = v
-      go (fin s m e) v = tt
-
-  above : T (lt (neg (dec 1 1)) (wholeOf n))
-  unfolding ofInt round neg lt
-  above = lt-le-trans (fin true 1 (pos 0)) (fin false 0 (pos 0)) (wholeOf n) tt tt whole-finite tt
-      (round-mono binary64 0 1 n 1 (omega arith) (omega arith) (omega arith))
-
-  below : T (lt (wholeOf n) (dec 18446744073709551616 1))
-  unfolding ofInt round lt
-  below =
-      le-lt-trans (wholeOf n) (fin false 4294967295 (pos 0)) (dec 18446744073709551616 1) whole-finite tt tt
-      (round-mono binary64 n 1 4294967295 1 (omega arith) (omega arith) (omega arith))
-      tt
-
-  in-float : T (inFloat binary64 (pos n))
-  unfolding inFloat
-  in-float = le→leb n 9007199254740992 (omega arith)
-
-  cut : toUnsigned 64 (wholeOf n) ≡ n
-  cut = unsigned-back binary64 64 n in-float (omega arith) .1
-
-  pub nat-whole : natOf (wholeOf n) ≡ n
-  unfolding natOf
-  nat-whole = rw (
-    is-true (lt (neg (dec 1 1)) (wholeOf n)) above,
-    is-true (lt (wholeOf n) (dec 18446744073709551616 1)) below,
-    cut,
-    is-true (leb n 4294967295)
-        (le→leb n 4294967295 h),
-  )
-
-  pub whole-is-whole : (l m : ℕ) → l ≤ n → n ≤ m → isWhole l m (wholeOf n) ≡ true
-  unfolding isWhole
-  whole-is-whole l m j k = rw
-      (nat-whole, is-true (eq (wholeOf n) (wholeOf n)) (eq-self (wholeOf n) whole-finite), is-true (leb l n) (le→leb l n j), is-true (leb n m) (le→leb n m k))
 
 -- ---- the doubles of an entry
 fields-length : (es : List Entry) (n : ℕ) → length (entriesFields es n) ≡ width * n

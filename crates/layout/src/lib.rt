@@ -4,42 +4,18 @@ ghost use Prim.Native.Nat.{_+_, _*_, _≤_};
 ghost use mathlib.Core.List.{_++_};
 ghost use lib.ListN.{length, take};
 ghost use Rattle.fields.specs.Fields.{written};
-ghost use Rattle.layout.specs.Layout.{width, boardLength, natOf, isWhole, numberOf, terminationOf, leastAt, entryOk, entryAt};
+ghost use Rattle.layout.specs.Layout.{width, boardLength, numberOf, terminationOf, leastAt, entryOk, entryAt};
 ghost use Rattle.layout.specs.Layout.{entriesOk, entriesAt, boardOk, boardAt, entryFields, entriesFields, boardFields};
 use board::Board;
 use board::Entry;
+use fields::is_whole;
+use fields::nat_of;
 use state::Termination;
 
 // The doubles of an entry.
 const WIDTH: usize = 6;
 // The doubles of a board.
 pub const BOARD_LENGTH: usize = 1539;
-
-// A double without its fraction, or 0 where that is no u32.
-fn nat_of(x: f64) -> u32
-    ensures { λ r. ⌜ r ≡ natOf x ⌝ }
-{
-    if x > -1.0 {
-        if x < 18446744073709551616.0 {
-            let n = std::num::truncating_f64_to_u64(x);
-            if n <= 4294967295 {
-                return n as u32;
-            }
-            return 0;
-        }
-        return 0;
-    }
-    0
-}
-
-// Whether x is a whole number from `least` to `most`.
-fn is_whole(x: f64, least: u32, most: u32) -> bool
-    ensures { λ r. ⌜ r ≡ isWhole least most x ⌝ }
-{
-    let n = nat_of(x);
-    let y = fields::whole(n as u64);
-    (x == y) & ((least <= n) & (n <= most))
-}
 
 // 0 none, 1 rest, 2 time, 3 impacts.
 fn termination_number(t: Termination) -> u32

@@ -18,7 +18,8 @@ use Rattle.tally.specs.Times.{isLate}
 use Rattle.tally.specs.Language.{M, Log, Outcome, goes, stops, onward, pure, if_then_else_, look, pushPoint}
 use Rattle.tally.specs.Language.{pushContact, mark, truncate, stepsLeft, loop, Pass, again, over}
 use Rattle.tally.specs.declared.Conditions.{Conditions}
-use Rattle.arrival.specs.RootSearch.{Goes, Gives, gives-pure, gives-then, gives-bind}
+use Rattle.tally.specs.Triple.{t-after, t-stop, t-any}
+use Rattle.arrival.specs.RootSearch.{Goes, Gives, given, gives-pure, gives-then, gives-bind}
 use Rattle.hop.specs.Hop.{flight, hopStep, hopFrom, hop}
 use Rattle.hop.specs.declared.Flight.{Flight}
 use Rattle.hop.specs.declared.Way.{Way}
@@ -37,11 +38,7 @@ use Rattle.promises.specs.OnePass.{Paced, either, given-test, time-eithe
 
 -- what a part gives is known by more
 gives-map : {A : Type 0} (P Q : A → Type 0) (m : M A) → ((a : A) → P a → Q a) → Gives P m → Gives Q m
-gives-map {A} P Q m f g o l = go (run o (m l) .outcome) (g o l)
-  where
-    go : (r : Outcome A) → Goes P r → Goes Q r
-    go (goes a) p = f a p
-    go (stops n) p = tt
+gives-map P Q m f g o = t-after (λ a w p. f a p) (λ n w r. r) (g o)
 
 by-test : {A : Type 0} (P : A → Type 0) (b : Bool) {x y : A} → P x → (b ≡ false → P y) → P (if b then x else y)
 by-test P true p q = p
@@ -55,7 +52,7 @@ On I R (over b) = R b
 module _ (o : Oracle) (P : Made → Type 0) where
   each-after : {A : Type 0} (Q : A → Type 0) (m : M A) (k : A → Log → List Made) → Gives Q m → ((a : A) → Q a → (l : Log) → Each P (k a l)) → (l : Log)
       → Each P (after o m k l)
-  each-after {A} Q m k g h l = go (run o (m l) .outcome) (run o (m l) .log) (g o l)
+  each-after {A} Q m k g h l = go (run o (m l) .outcome) (run o (m l) .log) (given Q m g o l)
     where
       go : (r : Outcome A) (l : Log) → Goes Q r → Each P (followed o k r l)
       go (goes a) l q = h a q l
@@ -69,7 +66,7 @@ module _ {A B : Type 0} (I : A → Type 0) (R : B → Type 0) (late : A → Bool
     (p : (a : A) → I a → late a ≡ false → Gives (On I R) (pass a)) where
   gives-loop : (atEnd : A → M B) → ((a : A) → I a → Gives R (atEnd a)) → (n : ℕ) (a : A) → I a → Gives R (loop n late atEnd pass a)
   unfolding loop
-  gives-loop atEnd e zero a i = either (Gives R) (late a) (e a i) (λ o l. unfold run in tt)
+  gives-loop atEnd e zero a i = either (Gives R) (late a) (e a i) (λ o. t-stop (λ w _. tt))
   gives-loop atEnd e (suc n) a i =
       by-test (Gives R) (late a) (e a i) (λ d. gives-then (On I R) R (pass a) _
       (λ x. elim x [ again b ↦ λ w. gives-loop atEnd e n b w | over r ↦ λ w. gives-pure R r w ]) (p a i d))
@@ -86,11 +83,7 @@ module _ {A B : Type 0} (I : A → Type 0) (R : B → Type 0) (late : A → Bool
         ))
 
 any : {A : Type 0} (m : M A) → Gives (λ _. Unit) m
-any {A} m o l = go (run o (m l) .outcome)
-  where
-    go : (r : Outcome A) → Goes (λ _. Unit) r
-    go (goes a) = tt
-    go (stops n) = tt
+any m o = t-any m
 
 impact-time : (state : BallState) (at : GroundSample) (ball : BallModel) → impactOf state at ball .time ≡ state .time
 unfolding impactOf struckBy

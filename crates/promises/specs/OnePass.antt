@@ -27,7 +27,8 @@ use Rattle.tally.specs.Language.{stepped, tested, M, onward, _>>=_, if_then_els
 use Rattle.tally.specs.declared.Conditions.{Conditions}
 use Rattle.arrival.specs.declared.Arc.{Arc}
 use Rattle.arrival.specs.Arrival.{clearance, hopArrival}
-use Rattle.arrival.specs.RootSearch.{at-most-200-looks, Goes, Gives, gives-pure, gives-then, gives-bind}
+use Rattle.tally.specs.Triple.{t-bind, t-test, t-step, t-made}
+use Rattle.arrival.specs.RootSearch.{at-most-200-looks, Gives, gives-pure, gives-then, gives-bind}
 use Rattle.arrival.specs.FirstCrossing.{IfSome}
 use Rattle.arrival.specs.ArrivalTime.{ArrivesIn, arrival-within}
 use Rattle.hop.specs.Hop.{flight, stepArc, stepEnd, hopNext, hopStep}
@@ -60,17 +61,12 @@ either P false p q = q
 
 -- a state is tested, and what follows goes on with it where it passes
 pub given-test : {B : Type 0} (P : B → Type 0) (b : BallState) (k : BallState → M B) → (stateOk b ≡ true → Gives P (k b)) → Gives P (test b >>= k)
-unfolding test _>>=_ bind run
-given-test P b k h o l = go (stateOk b) refl
-  where
-    go : (t : Bool) → stateOk b ≡ t → Goes P (run o ((test b >>= k) l) .outcome)
-    go true e = rw e (h e o (tested b l))
-    go false e = rw e tt
+given-test P b k h o =
+    t-bind {Q = λ x _. (x ≡ b) × (stateOk b ≡ true)} (t-test b (λ w _ e. (refl, e)) (λ w _ _. tt)) (λ a. record { all = λ w q. rw (q .0) (h (q .1) o .all w tt) })
 
 -- a step is made, and what follows goes on with what it made
 pub given-made : {B : Type 0} (P : B → Type 0) (s : Made) (k : Made → M B) → Gives P (k s) → Gives P (makeStep s >>= k)
-unfolding makeStep _>>=_ bind run
-given-made P s k h o l = h o (stepped l)
+given-made P s k h o = t-made s k (t-step s (λ w _. tt)) (h o)
 
 pub time-either : (b : Bool) (x y : BallState) (t : Float) → x .time ≡ t → y .time ≡ t → cond b x y .time ≡ t
 time-either true x y t p q = p

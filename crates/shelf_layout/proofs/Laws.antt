@@ -35,7 +35,7 @@ module _ (l : List Float) (o n i : ℕ) (h : i < n) (k : o + n ≤ length l) whe
       → take (i + 1) (set out i b) ++ map byteOf (take (n - (i + 1)) (drop (o + (i + 1)) l)) ≡ w
   read-on out w b e j left = added out _ i b j ∙ rw e (rw ahead at left)
 
-  pub test-on : (t b : Bool) → b ≡ isWhole 255 (getD l (o + i) nan) → areBytes (take (n - i) (drop (o + i) l)) ≡ t
+  pub test-on : (t b : Bool) → b ≡ isWhole 0 255 (getD l (o + i) nan) → areBytes (take (n - i) (drop (o + i) l)) ≡ t
       → b && areBytes (take (n - (i + 1)) (drop (o + (i + 1)) l)) ≡ t
   unfolding areBytes
   test-on t b e left = rw e (rw ahead at left)

@@ -34,7 +34,7 @@ shelfAt l = shelf (placesAt 16 l)
 -- each is, by value, a whole number from 0 to 255
 unfoldable pub areBytes : List Float → Bool
 areBytes [] = true
-areBytes (x ∷ l) = isWhole 255 x && areBytes l
+areBytes (x ∷ l) = isWhole 0 255 x && areBytes l
 
 -- so are the 13 doubles of the name in each of the first n places
 unfoldable pub namesOk : ℕ → List Float → Bool

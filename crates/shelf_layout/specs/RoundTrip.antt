@@ -50,7 +50,7 @@ bytes-back (b ∷ k) h =
 bytes-pass : (k : List ℕ) → Bytes k → areBytes (map wholeOf k) ≡ true
 unfolding Bytes areBytes
 bytes-pass [] h = refl
-bytes-pass (b ∷ k) h = let i = h .0 in rw (whole-is-whole b (omega arith) 255 (h .0), bytes-pass k (h .1))
+bytes-pass (b ∷ k) h = let i = h .0 in rw (whole-is-whole b (omega arith) 0 255 (omega arith) (h .0), bytes-pass k (h .1))
 
 -- ---- a place, and what follows it
 state-back : (s : BallState) (l : List Float) → stateAt (stateFields s ++ l) 0 ≡ s

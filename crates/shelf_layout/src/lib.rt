@@ -68,7 +68,7 @@ fn name_ok(l: &[f64], o: usize) -> bool
 {
     let mut i = 0;
     while i < 13 {
-        if !is_whole(l[o + i], 255) {
+        if !is_whole(l[o + i], 0, 255) {
             return false;
         }
         i += 1;

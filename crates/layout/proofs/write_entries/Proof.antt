@@ -12,7 +12,7 @@ use Rattle.board.specs.declared.Entry.{Entry}
 use Rattle.board.specs.Inner.{none}
 use Rattle.fields.specs.Fields.{written}
 use Rattle.layout.specs.Layout.{width, start, boardLength, entryFields, entriesFields}
-use Rattle.layout.proofs.Laws.{take-written, length-written}
+use Rattle.fields.proofs.Written.{take-written, length-written}
 use Rattle.layout.proofs.write_entries.Statement.{statement}
 use Rattle.layout.proofs.write_entries.Tie as tie
 
