@@ -39,6 +39,7 @@ module _ (o : Oracle) (q : Rect) (f : Float → M Float) (s : Search) (l : Log) 
   root-on h g = went o q (f (inBracket s)) _ l c h g ∙ ap (λ (m : M Float). exec o q (m l)) (root-turn inM f s n p)
 
 -- no evaluations left
-pub root-out : (o : Oracle) (q : Rect) (f : Float → M Float) (s : Search) (l : Log) (n : ℕ) → n ≤ 0 → did (ran (goes (s .bracket .hi)) l) q ≡ exec o q (rootFrom inM f n s l)
+pub root-out : (o : Oracle) (q : Rect) (f : Float → M Float) (s : Search) (l : Log) (n : ℕ) → n ≤ 0
+    → did (ran (goes (s .bracket .hi)) l) q ≡ exec o q (rootFrom inM f n s l)
 unfolding exec
 root-out o q f s l n h = ap (λ (m : M Float). exec o q (m l)) (root-ended inM f s n h)

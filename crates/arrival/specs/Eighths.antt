@@ -29,8 +29,10 @@ an-eighth = refl
 -- by 8 is times 1/8
 eighth : (x : Float) → T (finiteOf x) → x ⊘ dec 8 1 ≡ x ⊗ dec 1 8
 unfolding div mul
-eighth (fin true m e) i = ap (div binary64 (fin true m e)) eight ∙ ap (round binary64 true (m * up e * 1)) (mul-comm 8 (down e)) ∙ sym (ap (mul binary64 (fin true m e)) an-eighth)
-eighth (fin false m e) i = ap (div binary64 (fin false m e)) eight ∙ ap (round binary64 false (m * up e * 1)) (mul-comm 8 (down e)) ∙ sym (ap (mul binary64 (fin false m e)) an-eighth)
+eighth (fin true m e) i = ap (div binary64 (fin true m e)) eight ∙ ap (round binary64 true (m * up e * 1)) (mul-comm 8 (down e)) ∙ sym
+    (ap (mul binary64 (fin true m e)) an-eighth)
+eighth (fin false m e) i = ap (div binary64 (fin false m e)) eight ∙ ap (round binary64 false (m * up e * 1)) (mul-comm 8 (down e)) ∙ sym
+    (ap (mul binary64 (fin false m e)) an-eighth)
 
 eighth-mono : (x y : Float) → T (finiteOf x) → T (finiteOf y) → T (le x y) → T (le (x ⊘ dec 8 1) (y ⊘ dec 8 1))
 eighth-mono x y i j h = rw (eighth x i, eighth y j) (mul-mono x y (dec 1 8) i j (unfold round in tt) h (unfold round in unfold le in tt))
@@ -81,12 +83,14 @@ module _ (m : ℕ) (e : ℤ) (double : T (fits binary64 (fin false m e))) (small
       let g = on-grid binary64 false m e double in
       rw (product 8 (omega arith))
       (exactly binary64 false (m * up e * 8) (down e * 1) (g .q) (g .j + 3) positive (g .short)
-      (rw (pow-add 2 (g .j) 3) (eight-grid (m * up e) (down e) (2 ^ low binary64) (g .q) (2 ^ g .j) (g .same))) (eight-small (m * up e) (down e) positive small))
+      (rw (pow-add 2 (g .j) 3) (eight-grid (m * up e) (down e) (2 ^ low binary64) (g .q) (2 ^ g .j) (g .same)))
+      (eight-small (m * up e) (down e) positive small))
 
   ordered : (i j : ℕ) → i ≤ j → j ≤ 8 → T (le (timesOf (fin false m e) i) (timesOf (fin false m e) j))
   ordered i j h k =
       rw (product i (omega arith), product j k)
-      (round-mono binary64 (m * up e * i) (down e * 1) (m * up e * j) (down e * 1) positive positive (mul-le-mul-right (down e * 1) (mul-le-mul-left (m * up e) h)))
+      (round-mono binary64 (m * up e * i) (down e * 1) (m * up e * j) (down e * 1) positive positive
+      (mul-le-mul-right (down e * 1) (mul-le-mul-left (m * up e) h)))
 
   above-0 : (i : ℕ) → i ≤ 8 → T (le (dec 0 1) (timesOf (fin false m e) i))
   above-0 i h = rw (product i h) (round-mono binary64 0 1 (m * up e * i) (down e * 1) (zero-lt-suc 0) positive (omega arith))
@@ -100,9 +104,11 @@ module _ (m : ℕ) (e : ℤ) (double : T (fits binary64 (fin false m e))) (small
   eighths-fin =
       record {
         rising = λ i j h k. eighth-mono (timesOf (fin false m e) i) (timesOf (fin false m e) j) (finite i (omega arith)) (finite j k) (ordered i j h k);
-        from-0 = λ i h. subst (λ (z : Float). T (le z (eighthsOf (fin false m e) i))) zero-eighth (eighth-mono (dec 0 1) (timesOf (fin false m e) i) (unfold round in tt) (finite i h) (above-0 i h));
+        from-0 = λ i h. subst (λ (z : Float). T (le z (eighthsOf (fin false m e) i))) zero-eighth
+            (eighth-mono (dec 0 1) (timesOf (fin false m e) i) (unfold round in tt) (finite i h) (above-0 i h));
         last = eighth (timesOf (fin false m e) 8) (finite 8 (omega arith))
-            ∙ mul-of binary64 (timesOf (fin false m e) 8) (dec 1 8) (m * up e * 8) (down e * 1) 1 8 positive (zero-lt-suc 7) full (unfold round in (refl, refl))
+            ∙ mul-of binary64 (timesOf (fin false m e) 8) (dec 1 8) (m * up e * 8) (down e * 1) 1 8 positive (zero-lt-suc 7) full
+            (unfold round in (refl, refl))
             ∙ round-same binary64 false (m * up e * 8 * 1) (down e * 1 * 8) (m * up e) (down e) (mul-pos positive (zero-lt-suc 7)) (down-pos e) (omega arith)
             ∙ round-self binary64 false m e double;
       }

@@ -105,4 +105,5 @@ crossing-time-within arc b a =
     gives-bind (Within (b .lo) (b .hi)) (endValue arc b) _ (λ fHi. gives-bind (Within (b .lo) (b .hi)) (look _ _) _ (λ end.
     time-within arc (endingAt b fHi) (guessIn arc b (end .height))
     (record { lo-fits = a .lo-fits; hi-fits = a .hi-fits; lo-about = a .lo-about; hi-about = a .hi-about; order = a .order })
-    (clamp-fits (dropTime (arc .a .pos .y ⊖ end .height) (arc .a .vel .y)) (b .lo) (b .hi) (drop-fits (arc .a .pos .y ⊖ end .height) (arc .a .vel .y)) (a .lo-fits) (a .hi-fits))))
+    (clamp-fits (dropTime (arc .a .pos .y ⊖ end .height) (arc .a .vel .y)) (b .lo) (b .hi)
+    (drop-fits (arc .a .pos .y ⊖ end .height) (arc .a .vel .y)) (a .lo-fits) (a .hi-fits))))

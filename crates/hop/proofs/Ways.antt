@@ -20,7 +20,8 @@ use Rattle.hop.specs.declared.Way.{Way}
 use Rattle.hop.specs.declared.HopOut.{HopOut}
 use Rattle.hop.specs.declared.HopOut.the-variants.{Flew, Due, Ended}
 
-module _ {A : Type 0} {o : Oracle} {m : M A} {a : Place} {n : ℕ} {t : Tally} {lc lp : List Float} (c : Conditions) (start : BallState) (k : Way → M A) {f : Flight}
+module _ {A : Type 0} {o : Oracle} {m : M A} {a : Place} {n : ℕ} {t : Tally} {lc lp : List Float} (c : Conditions) (start : BallState)
+    (k : Way → M A) {f : Flight}
     (r : Reached o m a n (hop c start >>= k) (place t lc lp)) (e : f ≡ flight start (start .time ⊕ sampleInterval)) where
   from : Reached o m a n (hopOn c f >>= k) (place t lc lp)
   unfolding hop

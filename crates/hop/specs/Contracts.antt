@@ -44,4 +44,5 @@ HopPasses o c aero f t l r m = (lc : List Float) → Runs o (hopStep c aero f) 1
 -- a hop, from what its loop carries
 abbrev pub Hops : Oracle → Conditions → Flight → Tally → List Float → HopOut → List Float → Type 0
 Hops o c f t l r m = (lc : List Float) →
-    Loops o (hopOn c f) (λ f. isLate (f .state .time) (c .«t_end»)) (hopFrom c (fromSpinVector (f .state .spin)) 0) (place t lc l) (hopBack r) (place (afterHop r) lc m)
+    Loops o (hopOn c f) (λ f. isLate (f .state .time) (c .«t_end»)) (hopFrom c (fromSpinVector (f .state .spin)) 0) (place t lc l) (hopBack r)
+    (place (afterHop r) lc m)

@@ -24,7 +24,8 @@ toRest b = pushPoint b InRoll >> pure (over (ending Rest b))
 
 module _ (c : Conditions) (g : Roll) (s : Stepped) (due : Bool) where
   abbrev pub toHeld : GroundSample → BallState → M (Pass Roll Ending)
-  toHeld under b = if not (heldOf s.phase s.state under) then pure (again (roll b under (nextAfter due g.«next_sample» g.state.time) (lastOf s.phase))) else toRest b
+  toHeld under b = if not (heldOf s.phase s.state under) then pure
+      (again (roll b under (nextAfter due g.«next_sample» g.state.time) (lastOf s.phase))) else toRest b
 
   abbrev pub toTest : GroundSample → M (Pass Roll Ending)
   toTest under = test (putDown c g s.state s.rolling under) >>= toHeld under
@@ -36,7 +37,8 @@ module _ (c : Conditions) (g : Roll) (s : Stepped) (due : Bool) where
   toPush = when due (pushPoint g.state s.phase) >> toLook
 
 -- the step is made and counted
-pub stepped : {o : Oracle} {t t' : Tally} {lc lp : List Float} (c : Conditions) (g : Roll) {s : Stepped} {due : Bool} → s ≡ stepOn c g → due ≡ pointDue g.state.time g.«next_sample» g.last s.phase
+pub stepped : {o : Oracle} {t t' : Tally} {lc lp : List Float} (c : Conditions) (g : Roll) {s : Stepped} {due : Bool} → s ≡ stepOn c g
+    → due ≡ pointDue g.state.time g.«next_sample» g.last s.phase
     → MakesStep t t' → Reached o (groundStep c g) (place t lc lp) 1 (toPush c g s due) (place t' lc lp)
 unfolding groundStep
 stepped c g es ed r = rw (ed, ← es) (step-made _ _ begun r)

@@ -42,7 +42,8 @@ unfolding fly
 flying c hops state hit e = marked _ (if-left _ _ _ begun refl e)
 
 -- where the hop came to
-module _ {o : Oracle} {m : M Flown} {a p : Place} {n : ℕ} (c : Conditions) (state : BallState) (hit : Struck) (k : ℕ) (way : Way) {b : BallState} (r : Reached o m a n (toWay c state hit k way) p) where
+module _ {o : Oracle} {m : M Flown} {a p : Place} {n : ℕ} (c : Conditions) (state : BallState) (hit : Struck) (k : ℕ) (way : Way) {b : BallState}
+    (r : Reached o m a n (toWay c state hit k way) p) where
   pub way-late : way ≡ Late b → Reached o m a n (pure (Hop way)) p
   way-late v = rw v (rw v at r)
 

@@ -17,10 +17,14 @@ whole c late atEnd pass a₀ = stepsLeft c >>= λ n. loop n late atEnd pass a₀
 module _ {A B : Type 0} (o : Oracle) (c : Conditions) (late : A → Bool) (atEnd : A → M B) (pass : A → M (Pass A B)) (a₀ : A) (p₀ : Place) where
   -- the passes left from here are what is left of all of them
   pub record Midway (a : A) (p : Place) : Type 0 where
-    pub reached : Reached o (whole c late atEnd pass a₀) p₀ (p .tally .steps - p₀ .tally .steps) (loop (c .«step_limit» - p .tally .steps) late atEnd pass a) p
+    pub reached : Reached o (whole c late atEnd pass a₀) p₀ (p .tally .steps - p₀ .tally .steps)
+        (loop (c .«step_limit» - p .tally .steps) late atEnd pass a) p
 
   pub starts : Midway a₀ p₀
-  starts = record { reached = came (said (whole c late atEnd pass a₀) (loop (c .«step_limit» - p₀ .tally .steps) late atEnd pass a₀) begun (Words.left-steps o _ _ _ c refl)) }
+  starts = record {
+    reached = came (said (whole c late atEnd pass a₀) (loop (c .«step_limit» - p₀ .tally .steps) late atEnd pass a₀) begun
+        (Words.left-steps o _ _ _ c refl));
+  }
 
 -- nothing is done
 pub stands : {A : Type 0} (o : Oracle) (v : A) (p : Place) → RunsOn o (pure v) p (goes v) p
@@ -33,7 +37,8 @@ module _ {A B : Type 0} {o : Oracle} {c : Conditions} {late : A → Bool} {atEnd
   ends-late e r = on (last (said _ (atEnd a) (here .reached) (Words.loop-late o _ late atEnd pass a _ _ e refl)) r)
 
   -- no step is left
-  pub ends-due : c .«step_limit» ≤ p .tally .steps → Reached o (whole c late atEnd pass a₀) p₀ (p .tally .steps - p₀ .tally .steps) (loop 0 late atEnd pass a) p
+  pub ends-due : c .«step_limit» ≤ p .tally .steps
+      → Reached o (whole c late atEnd pass a₀) p₀ (p .tally .steps - p₀ .tally .steps) (loop 0 late atEnd pass a) p
   ends-due h = let z : c .«step_limit» - p .tally .steps ≡ 0 = omega (arith, h) in rw z at (here .reached)
 
   module _ (e : late a ≡ false) (h : p .tally .steps < c .«step_limit») {x : Outcome (Pass A B)} {p' : Place} (r : Runs o (pass a) 1 p x p') where

@@ -17,8 +17,10 @@ use Rattle.surface.specs.declared.GroundSample.{GroundSample}
 use Rattle.look.specs.Tree.{Made, Oracle, exec, Did, did, done}
 use Rattle.records.specs.Records.{recs, null, pushed, pick, put, full, Clean}
 use Rattle.records.proofs.Laws.{recs-length, recs-zeroed, clean-zeroed, zeroed-length}
-use Rattle.tally.specs.Language.{M, Outcome, goes, stops, Ran, ran, stopWith, _>>=_, if_then_else_, when, point, contact, pointOf, contactOf, makeStep, look, test, pushPoint, pushContact, mark, truncate}
-use Rattle.tally.specs.Contracts.{Place, place, logAt, Runs, RunsOn, Reached, MakesStep, LooksAt, Tests, PushesPoint, PushesIf, PushesContact, Truncates}
+use Rattle.tally.specs.Language.{M, Outcome, goes, stops, Ran, ran, stopWith, _>>=_, if_then_else_, when, point, contact, pointWidth}
+use Rattle.tally.specs.Language.{contactWidth, pointOf, contactOf, makeStep, look, test, pushPoint, pushContact, mark, truncate}
+use Rattle.tally.specs.Contracts.{Place, place, logAt, Runs, RunsOn, Reached, MakesStep, LooksAt, Tests, PushesPoint, PushesIf, PushesContact}
+use Rattle.tally.specs.Contracts.{Truncates}
 use Rattle.tally.specs.Lists.{stay, grow}
 use Rattle.tally.specs.Words as Words
 use Rattle.tally.specs.declared.Tally.{Tally}
@@ -98,52 +100,59 @@ module _ {A : Type 0} {o : Oracle} {m : M A} {a : Place} where
     -- the points are marked, and taken back to a mark that is not below the first
     pub marked : (k : ℕ → M A) → Reached o m a n (mark >>= k) b → Reached o m a n (k (b .tally .points)) b
     marked k r = record {
-      same = Words.marked o _ _ k (sym (recs-length 11 _ _)) refl ∙ r .same;
+      same = Words.marked o _ _ k (sym (recs-length pointWidth _ _)) refl ∙ r .same;
       count = r .count;
       contacts = r .contacts;
       points = r .points;
     }
 
     pub truncated : (k : Unit → M A) (i : ℕ) {t' : Tally} {l' : List Float} → Reached o m a n (truncate i >>= k) b → Truncates (b .tally) (b .points) i t' l'
-        → a .tally .points ≤ i → i ≤ b .tally .points → i * 11 ≤ length (b .points) → Reached o m a n (k tt) (place t' (b .contacts) l')
+        → a .tally .points ≤ i → i ≤ b .tally .points → i * pointWidth ≤ length (b .points) → Reached o m a n (k tt) (place t' (b .contacts) l')
     truncated k i r h u v w = rw (h .tally, h .list) (record {
-      same = rw (zeroed-length (b .points) (i * 11), recs-zeroed 11 i (b .tally .points) (b .points) v w) (Words.truncated o _ _ k i refl ∙ r .same);
+      same = rw (zeroed-length (b .points) (i * pointWidth), recs-zeroed pointWidth i (b .tally .points) (b .points) v w)
+          (Words.truncated o _ _ k i refl ∙ r .same);
       count = r .count;
       contacts = r .contacts;
-      points = record { more = u; long = zeroed-length (b .points) (i * 11) ∙ r .points .long; clean = λ _. clean-zeroed 11 i (b .points) w };
+      points = record { more = u; long = zeroed-length (b .points) (i * pointWidth) ∙ r .points .long; clean = λ _. clean-zeroed pointWidth i (b .points) w };
     })
 
 -- ---- a push that was made: one record more, and what the list then holds fits in it
-one-more : (w n k : ℕ) (l m r : List Float) → 0 < w → ltb (length (recs w n l)) (length l / w) ≡ true → recs w k m ≡ recs w n l ++ (r ∷ []) → (k ≡ n + 1) × (k * w ≤ length l)
+one-more : (w n k : ℕ) (l m r : List Float) → 0 < w → ltb (length (recs w n l)) (length l / w) ≡ true → recs w k m ≡ recs w n l ++ (r ∷ [])
+    → (k ≡ n + 1) × (k * w ≤ length l)
 one-more w n k l m r p t e =
     let i : k ≡ n + 1 = sym (recs-length w k m) ∙ ap length e ∙ length-append (recs w n l) (r ∷ []) ∙ ap (λ (j : ℕ). j + 1) (recs-length w n l) in
     let u : n < length l / w = ltb-true _ _ (rw (recs-length w n l) at t) in
     (i, le-div-iff-mul-le p .0 (omega (arith, i, u)))
 
 module _ {o : Oracle} {p q : Place} where
-  pub point-more : (s : BallState) (f : Phase) → Runs o (pushPoint s f) 0 p (goes tt) q → (q .tally .points ≡ p .tally .points + 1) × (q .tally .points * 11 ≤ length (p .points))
+  pub point-more : (s : BallState) (f : Phase) → Runs o (pushPoint s f) 0 p (goes tt) q
+      → (q .tally .points ≡ p .tally .points + 1) × (q .tally .points * pointWidth ≤ length (p .points))
   unfolding pushPoint pushed exec
-  point-more s f h = go (ltb (length (recs 11 (p .tally .points) (p .points))) (length (p .points) / 11)) refl (h .same)
+  point-more s f h = go (ltb (length (recs pointWidth (p .tally .points) (p .points))) (length (p .points) / pointWidth)) refl (h .same)
     where
-      go : (b : Bool) → ltb (length (recs 11 (p .tally .points) (p .points))) (length (p .points) / 11) ≡ b
-          → did (ran (goes tt) (logAt q)) (q .tally .rect) ≡ exec o (p .tally .rect) (point (pick b (put (recs 11 (p .tally .points) (p .points) ++ (pointOf s f ∷ []))) full) (logAt p))
-          → (q .tally .points ≡ p .tally .points + 1) × (q .tally .points * 11 ≤ length (p .points))
-      go true t e = one-more 11 _ _ _ _ _ (omega arith) t (ap (λ (d : Did (Ran Unit)). d .value .log .points .records) e)
+      go : (b : Bool) → ltb (length (recs pointWidth (p .tally .points) (p .points))) (length (p .points) / pointWidth) ≡ b
+          → did (ran (goes tt) (logAt q)) (q .tally .rect) ≡ exec o (p .tally .rect)
+          (point (pick b (put (recs pointWidth (p .tally .points) (p .points) ++ (pointOf s f ∷ []))) full) (logAt p))
+          → (q .tally .points ≡ p .tally .points + 1) × (q .tally .points * pointWidth ≤ length (p .points))
+      go true t e = one-more pointWidth _ _ _ _ _ (omega arith) t (ap (λ (d : Did (Ran Unit)). d .value .log .points .records) e)
       go false t e = absurd (let f = ap (λ (d : Did (Ran Unit)). d .value .outcome) e in let z : _≡_ {A = ℕ} 0 1 = cc (f) in omega arith)
 
-  pub contact-more : (a : BallState) (s : GroundSample) (b : BallState) → Runs o (pushContact a s b) 0 p (goes tt) q → (q .tally .contacts ≡ p .tally .contacts + 1) × (q .tally .contacts * 20 ≤ length (p .contacts))
+  pub contact-more : (a : BallState) (s : GroundSample) (b : BallState) → Runs o (pushContact a s b) 0 p (goes tt) q
+      → (q .tally .contacts ≡ p .tally .contacts + 1) × (q .tally .contacts * contactWidth ≤ length (p .contacts))
   unfolding pushContact pushed exec
-  contact-more a s b h = go (ltb (length (recs 20 (p .tally .contacts) (p .contacts))) (length (p .contacts) / 20)) refl (h .same)
+  contact-more a s b h = go (ltb (length (recs contactWidth (p .tally .contacts) (p .contacts))) (length (p .contacts) / contactWidth)) refl (h .same)
     where
-      go : (t : Bool) → ltb (length (recs 20 (p .tally .contacts) (p .contacts))) (length (p .contacts) / 20) ≡ t
-          → did (ran (goes tt) (logAt q)) (q .tally .rect) ≡ exec o (p .tally .rect) (contact (pick t (put (recs 20 (p .tally .contacts) (p .contacts) ++ (contactOf a s b ∷ []))) full) (logAt p))
-          → (q .tally .contacts ≡ p .tally .contacts + 1) × (q .tally .contacts * 20 ≤ length (p .contacts))
-      go true t e = one-more 20 _ _ _ _ _ (omega arith) t (ap (λ (d : Did (Ran Unit)). d .value .log .contacts .records) e)
+      go : (t : Bool) → ltb (length (recs contactWidth (p .tally .contacts) (p .contacts))) (length (p .contacts) / contactWidth) ≡ t
+          → did (ran (goes tt) (logAt q)) (q .tally .rect) ≡ exec o (p .tally .rect)
+          (contact (pick t (put (recs contactWidth (p .tally .contacts) (p .contacts) ++ (contactOf a s b ∷ []))) full) (logAt p))
+          → (q .tally .contacts ≡ p .tally .contacts + 1) × (q .tally .contacts * contactWidth ≤ length (p .contacts))
+      go true t e = one-more contactWidth _ _ _ _ _ (omega arith) t (ap (λ (d : Did (Ran Unit)). d .value .log .contacts .records) e)
       go false t e = absurd (let f = ap (λ (d : Did (Ran Unit)). d .value .outcome) e in let z : _≡_ {A = ℕ} 0 1 = cc (f) in omega arith)
 
 -- ---- the code's words, each with the ways that it can go
 module _ {A : Type 0} {o : Oracle} {m : M A} {a : Place} {n : ℕ} {t : Tally} {lc lp : List Float} where
-  pub step-made : (s : Made) (k : Made → M A) {t' : Tally} → Reached o m a n (makeStep s >>= k) (place t lc lp) → MakesStep t t' → Reached o m a (n + 1) (k s) (place t' lc lp)
+  pub step-made : (s : Made) (k : Made → M A) {t' : Tally} → Reached o m a n (makeStep s >>= k) (place t lc lp) → MakesStep t t'
+      → Reached o m a (n + 1) (k s) (place t' lc lp)
   step-made s k r h = went _ k r (h o s lc lp)
 
   module _ (x z : Float) (k : GroundSample → M A) {w : Looked} (r : Reached o m a n (look x z >>= k) (place t lc lp)) (h : LooksAt o t x z w) where
@@ -185,22 +194,24 @@ module _ {A : Type 0} {o : Oracle} {m : M A} {a : Place} {n : ℕ} {t : Tally} {
     contacts-full v = halted _ k r (rw v at (h o lp))
 
 -- a push that was made, by its contract: one record more, and what the list then holds fits in it
-pub point-fits : (o : Oracle) (s : BallState) (f : Phase) {t t' : Tally} {l m : List Float} {w : Push} → PushesPoint t l s f w m → w ≡ Pushed t' → (t' .points ≡ t .points + 1) × (t' .points * 11 ≤ length l)
+pub point-fits : (o : Oracle) (s : BallState) (f : Phase) {t t' : Tally} {l m : List Float} {w : Push} → PushesPoint t l s f w m → w ≡ Pushed t'
+    → (t' .points ≡ t .points + 1) × (t' .points * pointWidth ≤ length l)
 point-fits o s f {m = m} h v = point-more s f (rw v at (h o m))
 
-pub contact-fits : (o : Oracle) (a : BallState) (s : GroundSample) (b : BallState) {t t' : Tally} {l m : List Float} {w : Push} → PushesContact t l a s b w m → w ≡ Pushed t'
-    → (t' .contacts ≡ t .contacts + 1) × (t' .contacts * 20 ≤ length l)
+pub contact-fits : (o : Oracle) (a : BallState) (s : GroundSample) (b : BallState) {t t' : Tally} {l m : List Float} {w : Push}
+    → PushesContact t l a s b w m → w ≡ Pushed t'
+    → (t' .contacts ≡ t .contacts + 1) × (t' .contacts * contactWidth ≤ length l)
 contact-fits o a s b {m = m} h v = contact-more a s b (rw v at (h o m))
 
 -- a call that may be made with any contacts pushes none: it would find no room in a list that is full
 pub no-contact : {A : Type 0} {o : Oracle} {m : M A} {n : ℕ} {t t' : Tally} {lp mp : List Float} {x : Outcome A}
     → ((lc : List Float) → Runs o m n (place t lc lp) x (place t' lc mp)) → t' .contacts ≡ t .contacts
 no-contact {t = t} h =
-    let l = replicate (t .contacts * 20) null in
-    let e : length l ≡ t .contacts * 20 = length-replicate (t .contacts * 20) null in
+    let l = replicate (t .contacts * contactWidth) null in
+    let e : length l ≡ t .contacts * contactWidth = length-replicate (t .contacts * contactWidth) null in
     let r = h l .contacts in
-    let z : length l - t .contacts * 20 ≡ 0 = omega (arith, e) in
-    let c : Clean 20 (t .contacts) l
+    let z : length l - t .contacts * contactWidth ≡ 0 = omega (arith, e) in
+    let c : Clean contactWidth (t .contacts) l
     = record { fits = omega (arith, e); rest = ap (λ (j : ℕ). drop j l) (sym e) ∙ drop-length l ∙ ap (λ (j : ℕ). replicate j null) (sym z) } in
     let d = r .clean c .fits in
     omega (arith, d, e, r .more)

@@ -18,7 +18,8 @@ use Rattle.look.specs.declared.Look.the-variants.{Off, Saw}
 use Rattle.records.specs.Records.{Pushes}
 use Rattle.records.specs.declared.Pushed.{Pushed}
 use Rattle.records.specs.declared.Pushed.the-variants.{Full, Done}
-use Rattle.tally.specs.Language.{M, Outcome, goes, stops, ran, if_then_else_, when, pointOf, contactOf, seenAt, look, test, pushPoint, pushContact}
+use Rattle.tally.specs.Language.{M, Outcome, goes, stops, ran, if_then_else_, when, pointWidth, contactWidth, pointOf, contactOf, seenAt, look}
+use Rattle.tally.specs.Language.{test, pushPoint, pushContact}
 use Rattle.tally.specs.Contracts.{place, Runs, Looks, PushesIf, withRect, withContacts, withPoints}
 use Rattle.tally.specs.Lists.{stay, pushed-grown, full-grown}
 use Rattle.tally.specs.declared.Tally.{Tally}
@@ -26,7 +27,9 @@ use Rattle.tally.specs.declared.Push.the-variants.{Made as Put}
 
 -- ---- a test
 module _ {t : Tally} (s : BallState) {ok : Bool} (e : ok ≡ stateOk s) where
-  pub tested-good : ok ≡ true → (o : Oracle) (lc lp : List Float) → Runs o (test s) 0 (place t lc lp) (goes s) (place (record { steps = t .steps; contacts = t .contacts; points = t .points; good = s; rect = t .rect }) lc lp)
+  pub tested-good : ok ≡ true → (o : Oracle) (lc lp : List Float)
+      → Runs o (test s) 0 (place t lc lp) (goes s)
+      (place (record { steps = t .steps; contacts = t .contacts; points = t .points; good = s; rect = t .rect }) lc lp)
   unfolding test exec
   tested-good h o lc lp = record { same = rw (← e, h); count = omega arith; contacts = stay _ _ _; points = stay _ _ _ }
 
@@ -51,33 +54,50 @@ not-widened o r x z {w} {q} e v = go (spotOk x z) e
     go false e = ap (λ (d : Did Look). d .rect) e
 
 module _ {o : Oracle} {t : Tally} (x z : Float) {w : Look} {q : Rect} (h : did w q ≡ exec o (t .rect) (lookTree x z)) where
-  pub spot-seen : {s : GroundSample} {t' : Tally} → w ≡ Saw s → t' ≡ withRect t q → (lc lp : List Float) → Runs o (look x z) 0 (place t lc lp) (goes s) (place t' lc lp)
+  pub spot-seen : {s : GroundSample} {t' : Tally} → w ≡ Saw s → t' ≡ withRect t q → (lc lp : List Float)
+      → Runs o (look x z) 0 (place t lc lp) (goes s) (place t' lc lp)
   unfolding look exec
   spot-seen {s} v e = only-looks (λ l. ends o (t .rect) (lookTree x z) (λ (w : Look). seenAt w l) h v refl) e
 
   -- it leaves the rectangle as it was
   pub spot-off : w ≡ Off → (lc lp : List Float) → Runs o (look x z) 0 (place t lc lp) (stops 22) (place t lc lp)
   unfolding look exec
-  spot-off v lc lp = only-looks (λ l. rw (not-widened o (t .rect) x z h v) at (ends o (t .rect) (lookTree x z) (λ (w : Look). seenAt w l) h v refl)) refl lc lp
+  spot-off v lc lp = only-looks (λ l. rw (not-widened o (t .rect) x z h v) at
+      (ends o (t .rect) (lookTree x z) (λ (w : Look). seenAt w l) h v refl)) refl lc lp
 
 -- ---- pushes
-module _ {t : Tally} {l m : List Float} (s : BallState) (f : Phase) {p : Pushed} (h : Pushes 11 (t .points) l (pointOf s f) p m) where
-  pub point-pushed : {n : ℕ} {t' : Tally} → length m ≡ length l → p ≡ Done n → t' ≡ withPoints t n → (o : Oracle) (lc : List Float) → Runs o (pushPoint s f) 0 (place t lc l) (goes tt) (place t' lc m)
+module _ {t : Tally} {l m : List Float} (s : BallState) (f : Phase) {p : Pushed} (h : Pushes pointWidth (t .points) l (pointOf s f) p m) where
+  pub point-pushed : {n : ℕ} {t' : Tally} → length m ≡ length l → p ≡ Done n → t' ≡ withPoints t n → (o : Oracle) (lc : List Float)
+      → Runs o (pushPoint s f) 0 (place t lc l) (goes tt) (place t' lc m)
   unfolding pushPoint exec
-  point-pushed n v e o lc = rw e (record { same = rw (← h .same, v, n); count = omega arith; contacts = stay _ _ _; points = pushed-grown _ _ _ _ _ n (rw v at (h .kept)) })
+  point-pushed n v e o lc = rw e (record {
+    same = rw (← h .same, v, n);
+    count = omega arith;
+    contacts = stay _ _ _;
+    points = pushed-grown _ _ _ _ _ n (rw v at (h .kept));
+  })
 
   pub no-point : p ≡ Full → (o : Oracle) (lc : List Float) → Runs o (pushPoint s f) 0 (place t lc l) (stops 21) (place t lc m)
   unfolding pushPoint exec
-  no-point v o lc = let k : m ≡ l = rw v at (h .kept) in record { same = rw (← h .same, v, k); count = omega arith; contacts = stay _ _ _; points = full-grown _ _ _ _ k }
+  no-point v o lc = let k : m ≡ l = rw v at (h .kept) in record
+      { same = rw (← h .same, v, k); count = omega arith; contacts = stay _ _ _; points = full-grown _ _ _ _ k }
 
-module _ {t : Tally} {l m : List Float} (a : BallState) (s : GroundSample) (b : BallState) {p : Pushed} (h : Pushes 20 (t .contacts) l (contactOf a s b) p m) where
-  pub contact-pushed : {n : ℕ} {t' : Tally} → length m ≡ length l → p ≡ Done n → t' ≡ withContacts t n → (o : Oracle) (lp : List Float) → Runs o (pushContact a s b) 0 (place t l lp) (goes tt) (place t' m lp)
+module _ {t : Tally} {l m : List Float} (a : BallState) (s : GroundSample) (b : BallState) {p : Pushed}
+    (h : Pushes contactWidth (t .contacts) l (contactOf a s b) p m) where
+  pub contact-pushed : {n : ℕ} {t' : Tally} → length m ≡ length l → p ≡ Done n → t' ≡ withContacts t n → (o : Oracle) (lp : List Float)
+      → Runs o (pushContact a s b) 0 (place t l lp) (goes tt) (place t' m lp)
   unfolding pushContact exec
-  contact-pushed n v e o lp = rw e (record { same = rw (← h .same, v, n); count = omega arith; contacts = pushed-grown _ _ _ _ _ n (rw v at (h .kept)); points = stay _ _ _ })
+  contact-pushed n v e o lp = rw e (record {
+    same = rw (← h .same, v, n);
+    count = omega arith;
+    contacts = pushed-grown _ _ _ _ _ n (rw v at (h .kept));
+    points = stay _ _ _;
+  })
 
   pub no-contact : p ≡ Full → (o : Oracle) (lp : List Float) → Runs o (pushContact a s b) 0 (place t l lp) (stops 20) (place t m lp)
   unfolding pushContact exec
-  no-contact v o lp = let k : m ≡ l = rw v at (h .kept) in record { same = rw (← h .same, v, k); count = omega arith; contacts = full-grown _ _ _ _ k; points = stay _ _ _ }
+  no-contact v o lp = let k : m ≡ l = rw v at (h .kept) in record
+      { same = rw (← h .same, v, k); count = omega arith; contacts = full-grown _ _ _ _ k; points = stay _ _ _ }
 
 -- ---- no point is due
 pub not-due : (t : Tally) (l : List Float) (s : BallState) (f : Phase) → PushesIf false t l s f (Put t) l

@@ -12,7 +12,8 @@ use Rattle.look.specs.Rect.{noRect}
 use Rattle.look.specs.Tree.{Made, Oracle, exec, did}
 use Rattle.look.specs.declared.Rect.{Rect}
 use Rattle.records.specs.Records.{recs, zeroed, Clean}
-use Rattle.tally.specs.Language.{M, Lent, Log, Outcome, goes, stops, ran, Pass, over, when, makeStep, look, test, pushPoint, pushContact}
+use Rattle.tally.specs.Language.{M, Lent, Log, Outcome, goes, stops, ran, Pass, over, when, pointWidth, contactWidth, makeStep, look, test}
+use Rattle.tally.specs.Language.{pushPoint, pushContact}
 use Rattle.tally.specs.declared.Tally.{Tally}
 use Rattle.tally.specs.declared.Looked.{Looked}
 use Rattle.tally.specs.declared.Looked.the-variants.{Off, Saw}
@@ -55,8 +56,8 @@ lent w n l = record { room = length l / w; records = recs w n l }
 abbrev pub logAt : Place → Log
 logAt p = record {
   steps = p .tally .steps;
-  contacts = lent 20 (p .tally .contacts) (p .contacts);
-  points = lent 11 (p .tally .points) (p .points);
+  contacts = lent contactWidth (p .tally .contacts) (p .contacts);
+  points = lent pointWidth (p .tally .points) (p .points);
   good = p .tally .good;
 }
 
@@ -72,8 +73,8 @@ pub record Grown (w n : ℕ) (l : List Float) (k : ℕ) (m : List Float) : Type 
 pub record Runs {A : Type 0} (o : Oracle) (m : M A) (n : ℕ) (a : Place) (x : Outcome A) (b : Place) : Type 0 where
   pub same : did (ran x (logAt b)) (b .tally .rect) ≡ exec o (a .tally .rect) (m (logAt a))
   pub count : b .tally .steps ≡ a .tally .steps + n
-  pub contacts : Grown 20 (a .tally .contacts) (a .contacts) (b .tally .contacts) (b .contacts)
-  pub points : Grown 11 (a .tally .points) (a .points) (b .tally .points) (b .points)
+  pub contacts : Grown contactWidth (a .tally .contacts) (a .contacts) (b .tally .contacts) (b .contacts)
+  pub points : Grown pointWidth (a .tally .points) (a .points) (b .tally .points) (b .points)
 
 -- the same, of a call that makes as many steps as it counts
 abbrev pub RunsOn : {A : Type 0} → Oracle → M A → Place → Outcome A → Place → Type 0
@@ -83,8 +84,8 @@ RunsOn o m a x b = Runs o m (b .tally .steps - a .tally .steps) a x b
 pub record Reached {A : Type 0} (o : Oracle) (m : M A) (a : Place) (n : ℕ) (m' : M A) (b : Place) : Type 0 where
   pub same : exec o (b .tally .rect) (m' (logAt b)) ≡ exec o (a .tally .rect) (m (logAt a))
   pub count : b .tally .steps ≡ a .tally .steps + n
-  pub contacts : Grown 20 (a .tally .contacts) (a .contacts) (b .tally .contacts) (b .contacts)
-  pub points : Grown 11 (a .tally .points) (a .points) (b .tally .points) (b .points)
+  pub contacts : Grown contactWidth (a .tally .contacts) (a .contacts) (b .tally .contacts) (b .contacts)
+  pub points : Grown pointWidth (a .tally .points) (a .points) (b .tally .points) (b .points)
 
 -- a call that only looks: from rectangle q to q', its outcome is the definition's and the log stays as it is
 abbrev pub Looks : {A : Type 0} → Oracle → Rect → M A → Outcome A → Rect → Type 0
@@ -154,4 +155,4 @@ PushesContact t l a s b r m = (o : Oracle) (lp : List Float) → Runs o (pushCon
 -- `truncate`, by the list: +0 from record n on, and n is counted
 pub record Truncates (t : Tally) (l : List Float) (n : ℕ) (t' : Tally) (m : List Float) : Type 0 where
   pub tally : t' ≡ withPoints t n
-  pub list : m ≡ zeroed l (n * 11)
+  pub list : m ≡ zeroed l (n * pointWidth)

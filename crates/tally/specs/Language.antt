@@ -84,6 +84,13 @@ phaseNumber Hop = dec 0 1
 phaseNumber Slide = dec 1 1
 phaseNumber Roll = dec 2 1
 
+-- the numbers of a point and of a contact. 01: "Points, 11"; "20 a record"
+abbrev pub pointWidth : ℕ
+pointWidth = 11
+
+abbrev pub contactWidth : ℕ
+contactWidth = 20
+
 -- 01: "Points, 11: time, pos, vel, spin, phase"
 abbrev pub pointOf : BallState → Phase → List Float
 pointOf s p =

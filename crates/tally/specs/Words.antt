@@ -19,7 +19,9 @@ use Rattle.records.specs.declared.Pushed.the-variants.{Full, Done}
 use Rattle.tally.specs.declared.Conditions.{Conditions}
 use Rattle.tally.specs.Contracts.{overBy}
 use Rattle.state.specs.State.{stateOk}
-use Rattle.tally.specs.Language.{M, Ran, ran, Log, Outcome, goes, stops, onward, _>>=_, when, pointOf, contactOf, seenAt, stepped, tested, withPoints, withContacts, pushContact, makeStep, look, test, pushPoint, mark, truncate, stepsLeft, Pass, again, loop}
+use Rattle.tally.specs.Language.{M, Ran, ran, Log, Outcome, goes, stops, onward, _>>=_, when, pointOf, contactOf, seenAt, stepped, tested}
+use Rattle.tally.specs.Language.{withPoints, withContacts, pushContact, makeStep, look, test, pushPoint, mark, truncate, stepsLeft, Pass, again}
+use Rattle.tally.specs.Language.{loop}
 
 module _ {A B : Type 0} (o : Oracle) (q : Rect) (m : M A) (k : A → M B) (l : Log) {x : Outcome A} {l' : Log} {q' : Rect} where
   -- the callee went on
@@ -34,7 +36,8 @@ module _ {A B : Type 0} (o : Oracle) (q : Rect) (m : M A) (k : A → M B) (l : L
 
 -- the words, each with what may follow it
 module _ {B : Type 0} (o : Oracle) (q : Rect) (l : Log) where
-  pub test-ok : (k : BallState → M B) {b b' : BallState} {d : Did (Ran B)} → b ≡ b' → stateOk b ≡ true → d ≡ exec o q (k b (tested b l)) → d ≡ exec o q ((test b' >>= k) l)
+  pub test-ok : (k : BallState → M B) {b b' : BallState} {d : Did (Ran B)} → b ≡ b' → stateOk b ≡ true → d ≡ exec o q (k b (tested b l))
+      → d ≡ exec o q ((test b' >>= k) l)
   unfolding _>>=_ exec bind test
   test-ok k e h p = rw (← e, h) p
 
@@ -56,7 +59,8 @@ module _ {B : Type 0} (o : Oracle) (q : Rect) (l : Log) where
   unfolding _>>=_ bind mark
   marked k e p = rw (← e) p
 
-  pub truncated : (k : Unit → M B) (n : ℕ) {d : Did (Ran B)} → d ≡ exec o q (k tt (withPoints (take n (l .points .records)) l)) → d ≡ exec o q ((truncate n >>= k) l)
+  pub truncated : (k : Unit → M B) (n : ℕ) {d : Did (Ran B)} → d ≡ exec o q (k tt (withPoints (take n (l .points .records)) l))
+      → d ≡ exec o q ((truncate n >>= k) l)
   unfolding _>>=_ bind truncate
   truncated k n p = p
 
@@ -76,7 +80,8 @@ module _ {A B : Type 0} (o : Oracle) (q : Rect) (late : A → Bool) (atEnd : A �
   loop-out e t = rw (e, t)
 
   pub loop-again : {n j : ℕ} {b : A} {x : Outcome (Pass A B)} {l' : Log} {q' : Rect} {d : Did (Ran B)}
-      → n ≡ suc j → late a ≡ false → did (ran x l') q' ≡ exec o q (pass a l) → x ≡ goes (again b) → d ≡ exec o q' (loop j late atEnd pass b l') → d ≡ exec o q (loop n late atEnd pass a l)
+      → n ≡ suc j → late a ≡ false → did (ran x l') q' ≡ exec o q (pass a l) → x ≡ goes (again b) → d ≡ exec o q' (loop j late atEnd pass b l')
+      → d ≡ exec o q (loop n late atEnd pass a l)
   unfolding loop
   loop-again e t c h p = rw (e, t) (went o q (pass a) _ l c h p)
 

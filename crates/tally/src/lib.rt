@@ -6,7 +6,7 @@ ghost use Rattle.course.specs.Sheet.{courseOf};
 ghost use Rattle.course.specs.Index.{Ready};
 ghost use Rattle.records.specs.Records.{Pushes};
 ghost use Rattle.tally.specs.Times.{isLate, isDue, nextAfter};
-ghost use Rattle.tally.specs.Language.{phaseNumber, pointOf, contactOf};
+ghost use Rattle.tally.specs.Language.{phaseNumber, pointWidth, contactWidth, pointOf, contactOf};
 ghost use Rattle.tally.specs.Contracts.{firstTally, MakesStep, LooksAt, Tests, PushesPoint, PushesIf, PushesContact, Truncates, withContacts, withPoints, withRect};
 use aero::BallModel;
 use look::Look;
@@ -21,6 +21,9 @@ use vector::DVec3;
 const TIME_EPS: f64 = 1e-9;
 
 const SAMPLE_INTERVAL: f64 = 0.01;
+
+// The numbers of a point.
+const POINT_WIDTH: usize = 11;
 
 // What stays the same throughout one settle.
 pub struct Conditions {
@@ -202,7 +205,7 @@ fn phase_number(phase: Phase) -> f64
 }
 
 fn write_point(points: &mut [f64], n: usize, s: BallState, phase: Phase) -> Pushed
-    ensures { λ r. ⌜ Pushes 11 n (now (points .entry)) (pointOf s phase) r (now (points .exit)) ⌝ }
+    ensures { λ r. ⌜ Pushes pointWidth n (now (points .entry)) (pointOf s phase) r (now (points .exit)) ⌝ }
 {
     let p = s.pos;
     let v = s.vel;
@@ -240,7 +243,7 @@ fn write_contact(
     at: GroundSample,
     departure: BallState,
 ) -> Pushed
-    ensures { λ r. ⌜ Pushes 20 n (now (contacts .entry)) (contactOf arrival at departure) r (now (contacts .exit)) ⌝ }
+    ensures { λ r. ⌜ Pushes contactWidth n (now (contacts .entry)) (contactOf arrival at departure) r (now (contacts .exit)) ⌝ }
 {
     let p = arrival.pos;
     let normal = at.normal;
@@ -292,9 +295,9 @@ pub fn push_contact(
 
 // The points from `mark` on are taken back.
 pub fn truncate(points: &mut [f64], t: Tally, mark: usize) -> Tally
-    requires { ⌜ mark * 11 ≤ length (now points) ⌝ }
+    requires { ⌜ mark * pointWidth ≤ length (now points) ⌝ }
     ensures { λ r. ⌜ Truncates t (now (points .entry)) mark r (now (points .exit)) ⌝ }
 {
-    records::zero_from(points, mark * 11);
+    records::zero_from(points, mark * POINT_WIDTH);
     with_points(t, mark)
 }

@@ -10,7 +10,7 @@ use borrow.Author.Tests.{leb-true, leb-false}
 use Rattle.state.specs.declared.BallState.{BallState}
 use Rattle.state.specs.declared.Phase.the-variants.{Hop as InHop}
 use Rattle.look.specs.Tree.{bind, Oracle, exec}
-use Rattle.tally.specs.Language.{M, Log, Outcome, goes, stops, stopWith, _>>=_, _>>_, if_then_else_, pushContact}
+use Rattle.tally.specs.Language.{M, contactWidth, Log, Outcome, goes, stops, stopWith, _>>=_, _>>_, if_then_else_, pushContact}
 use Rattle.tally.specs.Contracts.{Place, place, logAt, firstTally, RunsOn, Reached}
 use Rattle.tally.specs.declared.Conditions.{Conditions}
 use Rattle.tally.specs.declared.Tally.{Tally}
@@ -57,7 +57,8 @@ module _ (c : Conditions) (a : BallState) where
 
   -- where the impact is not the last that max_impacts allows, the rebound is flown, or not
   fly-is : (o : Oracle) (p : Place) (hit : Struck) (hops : Bool) (k max : ℕ) → isLast hops k max ≡ false
-      → exec o (p .tally .rect) ((fly c hops a hit >>= flownTo (max - (k + 1 + 1)) hit) (logAt p)) ≡ exec o (p .tally .rect) (bodyOf hops (max - (k + 1)) hit (logAt p))
+      → exec o (p .tally .rect) ((fly c hops a hit >>= flownTo (max - (k + 1 + 1)) hit) (logAt p)) ≡ exec o (p .tally .rect)
+      (bodyOf hops (max - (k + 1)) hit (logAt p))
   unfolding bodyOf fly bind _>>=_
   fly-is o p hit hops k max s = go hops (max - (k + 1)) refl s
     where
@@ -83,12 +84,12 @@ module _ (o : Oracle) (c : Conditions) (landing : BallState) (lc lp : List Float
   -- what the train's loop keeps
   pub record Along (state : BallState) (p : Place) : Type 0 where
     pub reached : At o (train c landing) (place (firstTally landing) lc lp) (trainFrom c (c .physics .«max_impacts» - (p .tally .contacts + 1)) state) p
-    pub room : p .tally .contacts * 20 ≤ length lc
+    pub room : p .tally .contacts * contactWidth ≤ length lc
 
   -- a turn was made, by one contact more
   pub along : (k : ℕ) (b : BallState) {t : Tally} {mc mp : List Float}
       → At o (train c landing) (place (firstTally landing) lc lp) (trainFrom c (c .physics .«max_impacts» - (k + 1 + 1)) b) (place t mc mp)
-      → t .contacts ≡ k + 1 → t .contacts * 20 ≤ length lc → Along b (place t mc mp)
+      → t .contacts ≡ k + 1 → t .contacts * contactWidth ≤ length lc → Along b (place t mc mp)
   along k b r e h = record { reached = rw (← e) at r; room = h }
 
   pub starts : {t : Tally} → t ≡ firstTally landing → Along landing (place t lc lp)
@@ -113,12 +114,16 @@ module _ {o : Oracle} {w : M Ending} {p₀ : Place} (c : Conditions) (state : Ba
     -- any other
     module _ (v : isLast hops k (c .physics .«max_impacts») ≡ false) where
       to-fly : At o w p₀ (fly c hops state hit >>= flownTo c state (c .physics .«max_impacts» - (k + 1 + 1)) hit) (place t mc mp)
-      to-fly = said (bodyOf c state hops (c .physics .«max_impacts» - (k + 1)) hit) (fly c hops state hit >>= flownTo c state (c .physics .«max_impacts» - (k + 1 + 1)) hit) here (fly-is c state o (place t mc mp) hit hops k (c .physics .«max_impacts») v)
+      to-fly = said (bodyOf c state hops (c .physics .«max_impacts» - (k + 1)) hit)
+          (fly c hops state hit >>= flownTo c state (c .physics .«max_impacts» - (k + 1 + 1)) hit) here
+          (fly-is c state o (place t mc mp) hit hops k (c .physics .«max_impacts») v)
 
-      pub ends-flight : {r : FlyOut} {mp' : List Float} {i : ℕ} → Flies o c hops state hit t mp r mp' → r .how ≡ FlyEnded i → RunsOn o w p₀ (stops i) (place (r .tally) mc mp')
+      pub ends-flight : {r : FlyOut} {mp' : List Float} {i : ℕ} → Flies o c hops state hit t mp r mp' → r .how ≡ FlyEnded i
+          → RunsOn o w p₀ (stops i) (place (r .tally) mc mp')
       ends-flight h e = on (ended (halted _ _ to-fly (rw e at (h mc))))
 
-      pub flown : {r : FlyOut} {mp' : List Float} {f : Flown} → Flies o c hops state hit t mp r mp' → r .how ≡ Went f → At o w p₀ (flownTo c state (c .physics .«max_impacts» - (k + 1 + 1)) hit f) (place (r .tally) mc mp')
+      pub flown : {r : FlyOut} {mp' : List Float} {f : Flown} → Flies o c hops state hit t mp r mp' → r .how ≡ Went f
+          → At o w p₀ (flownTo c state (c .physics .«max_impacts» - (k + 1 + 1)) hit f) (place (r .tally) mc mp')
       flown h e = came (went _ _ to-fly (rw e at (h mc)))
 
   -- not flown, or discarded
@@ -128,10 +133,12 @@ module _ {o : Oracle} {w : M Ending} {p₀ : Place} (c : Conditions) (state : Ba
       unfolding toGround
       to-drop = rw v at here
 
-      pub ends-drop : {r : DropOut} {mc' : List Float} {i : ℕ} → Drops c state hit t mc r mc' → r .end ≡ DropEnded i → RunsOn o w p₀ (stops i) (place (r .tally) mc' mp)
+      pub ends-drop : {r : DropOut} {mc' : List Float} {i : ℕ} → Drops c state hit t mc r mc' → r .end ≡ DropEnded i
+          → RunsOn o w p₀ (stops i) (place (r .tally) mc' mp)
       ends-drop h e = on (ended (halted _ _ to-drop (rw e at (h o mp))))
 
-      pub dropped : {r : DropOut} {mc' : List Float} {leave : BallState} → Drops c state hit t mc r mc' → r .end ≡ Left leave → At o w p₀ (ground c leave (hit .«at»)) (place (r .tally) mc' mp)
+      pub dropped : {r : DropOut} {mc' : List Float} {leave : BallState} → Drops c state hit t mc r mc' → r .end ≡ Left leave
+          → At o w p₀ (ground c leave (hit .«at»)) (place (r .tally) mc' mp)
       dropped h e = came (went _ _ to-drop (rw e at (h o mp)))
 
     -- flown and kept: the contact is due
@@ -139,9 +146,11 @@ module _ {o : Oracle} {w : M Ending} {p₀ : Place} (c : Conditions) (state : Ba
     kept v = rw v at here
 
 -- where the hop came to
-module _ {o : Oracle} {w : M Ending} {p₀ : Place} (c : Conditions) {t : Tally} {mc mp : List Float} (n : ℕ) (way : Way) (here : At o w p₀ (toWay c n way) (place t mc mp)) where
+module _ {o : Oracle} {w : M Ending} {p₀ : Place} (c : Conditions) {t : Tally} {mc mp : List Float} (n : ℕ) (way : Way)
+    (here : At o w p₀ (toWay c n way) (place t mc mp)) where
   pub arrived : {b : BallState} → way ≡ Arrived b → At o w p₀ (trainFrom c n b) (place t mc mp)
   arrived v = rw v at here
 
-  pub ends-late : (x : RunOut) {b : BallState} {mp' : List Float} → way ≡ Late b → TimesUp b InHop t mp x mp' → RunsOn o w p₀ (endedBy x) (place (afterRun x) mc mp')
+  pub ends-late : (x : RunOut) {b : BallState} {mp' : List Float} → way ≡ Late b → TimesUp b InHop t mp x mp'
+      → RunsOn o w p₀ (endedBy x) (place (afterRun x) mc mp')
   ends-late x v h = on (last (rw v at here) (h o mc))

@@ -20,7 +20,9 @@ returns c lc lp = ended (spot-off _ _ _ begun (c .before .before .look .ensures)
 
 returns-2 : tie.Need-returns-2
 unfolding clearance
-returns-2 c lc lp = ended (spot-seen _ _ _ begun (c .before .before .before .before .before .look .ensures) (c .before .before .before .s .given .1))
+returns-2 c lc lp =
+    let at-s = c .before .before .before in
+    ended (spot-seen _ _ _ begun (at-s .before .before .look .ensures) (at-s .s .given .1))
 
 pub clear-spec : {M : Type 1} → statement M
 clear-spec = tie.close (tie.spec look-requires enum-known-s enum-told returns returns-2)

@@ -18,11 +18,16 @@ enum-told c = search needs
 
 returns : tie.Need-returns
 unfolding clearance
-returns c = λ l. look-off _ _ _ _ _ _ (c .before .before .before .look-at .ensures) (c .enum-told .given .1)
+returns c =
+    let at-look-at = c .before .before .before in
+    λ l. look-off _ _ _ _ _ _ (at-look-at .look-at .ensures) (c .enum-told .given .1)
 
 returns-2 : tie.Need-returns-2
 unfolding clearance exec
-returns-2 c = λ l. look-saw _ _ _ _ _ _ (c .before .before .before .before .before .before .look-at .ensures) (c .before .before .before .what .given .1) refl
+returns-2 c =
+    let at-what = c .before .before .before in
+    let at-look-at = at-what .before .before .before in
+    λ l. look-saw _ _ _ _ _ _ (at-look-at .look-at .ensures) (at-what .what .given .1) refl
 
 pub clearance-spec : {M : Type 1} → statement M
 clearance-spec = tie.close (tie.spec look-at-requires enum-known-what enum-told returns returns-2)

@@ -18,10 +18,15 @@ enum-told c = search needs
 
 returns : tie.Need-returns
 unfolding crossingTime
-returns c = λ l. halted _ _ _ _ l (c .before .before .before .end-value .ensures l) (ap valueBy (c .enum-told .given .1))
+returns c =
+    let at-end-value = c .before .before .before in
+    λ l. halted _ _ _ _ l (at-end-value .end-value .ensures l) (ap valueBy (c .enum-told .given .1))
 
 look-at-requires : tie.Need-look-at-requires
-look-at-requires c κs = c .before .before .before .before .before .before .before .before .before .pre
+look-at-requires c κs =
+    let at-end-value = c .before .before .before .before .before .before in
+    let at-start = at-end-value .before .before .before in
+    at-start .pre
 
 enum-known-under : tie.Need-enum-known-under
 enum-known-under c = search needs
@@ -31,18 +36,31 @@ enum-told-2 c = search needs
 
 returns-2 : tie.Need-returns-2
 unfolding crossingTime
-returns-2 c = λ l.
-    went _ _ _ _ l (c .before .before .before .before .before .before .before .before .before .before .end-value .ensures l) (ap valueBy (c .before .before .before .before .before .before .before .what .given .1))
-    (look-off _ _ _ _ _ _ (rw (c .before .before .before .before .before .arc-at .ensures) at (c .before .before .before .look-at .ensures)) (c .enum-told2 .given .1))
+returns-2 c =
+    let at-look-at = c .before .before .before in
+    let at-what = at-look-at .before .before .before .before in
+    let at-end-value = at-what .before .before .before in
+    λ l.
+    went _ _ _ _ l (at-end-value .end-value .ensures l) (ap valueBy (at-what .what .given .1))
+    (look-off _ _ _ _ _ _ (rw (at-look-at .before .before .arc-at .ensures) at (at-look-at .look-at .ensures)) (c .enum-told2 .given .1))
 
 find-root-requires : tie.Need-find-root-requires
-find-root-requires c κs = c .before .before .before .before .before .before .before .before .before .before .before .before .before .before .before .before .pre
+find-root-requires c κs =
+    let at-look-at = c .before .before .before .before .before .before in
+    let at-q = at-look-at .before .before .before .before .before .before in
+    let at-start = at-q .before .before .before .before in
+    at-start .pre
 
 returns-3 : tie.Need-returns-3
 unfolding crossingTime
-returns-3 c = λ l.
-    went _ _ _ _ l (c .before .before .before .before .before .before .before .before .before .before .before .before .before .before .end-value .ensures l) (ap valueBy (c .before .before .before .before .before .before .before .before .before .before .before .what .given .1))
-    (look-saw _ _ _ _ _ _ (rw (c .before .before .before .before .before .before .before .before .before .arc-at .ensures) at (c .before .before .before .before .before .before .before .look-at .ensures)) (c .before .before .before .before .under .given .1)
+returns-3 c =
+    let at-under = c .before .before .before .before in
+    let at-look-at = at-under .before .before .before in
+    let at-what = at-look-at .before .before .before .before in
+    let at-end-value = at-what .before .before .before in
+    λ l.
+    went _ _ _ _ l (at-end-value .end-value .ensures l) (ap valueBy (at-what .what .given .1))
+    (look-saw _ _ _ _ _ _ (rw (at-look-at .before .before .arc-at .ensures) at (at-look-at .look-at .ensures)) (at-under .under .given .1)
     (rw (← c .before .before .ending-at .ensures, ← c .before .guess-in .ensures) (c .find-root .ensures l)))
 
 pub crossing-time-spec : {M : Type 1} → statement M

@@ -10,7 +10,9 @@ use Rattle.arrival.proofs.end_value.Statement.{statement}
 use Rattle.arrival.proofs.end_value.Tie as tie
 
 clearance-at-requires : tie.Need-clearance-at-requires
-clearance-at-requires c κs = c .before .before .before .before .before .pre
+clearance-at-requires c κs =
+    let at-start = c .before .before .before .before .before in
+    at-start .pre
 
 enum-known-what : tie.Need-enum-known-what
 enum-known-what c = search needs
@@ -20,11 +22,16 @@ enum-told c = search needs
 
 returns : tie.Need-returns
 unfolding endValue
-returns c = λ l. rw (c .before .before .before .before .if1 .taken) (halted _ _ _ _ l (c .before .before .before .clearance-at .ensures l) (ap valueBy (c .enum-told .given .1)))
+returns c =
+    let at-clearance-at = c .before .before .before in
+    λ l. rw (at-clearance-at .before .if1 .taken) (halted _ _ _ _ l (at-clearance-at .clearance-at .ensures l) (ap valueBy (c .enum-told .given .1)))
 
 returns-2 : tie.Need-returns-2
 unfolding endValue exec ofBits round
-returns-2 c = λ l. rw (c .before .before .before .before .before .before .if1 .taken) (went _ _ _ _ l (c .before .before .before .before .before .clearance-at .ensures l) (ap valueBy (c .before .before .what .given .1)) (rw (c .min .ensures)))
+returns-2 c =
+    let at-clearance-at = c .before .before .before .before .before in
+    λ l. rw (at-clearance-at .before .if1 .taken) (went _ _ _ _ l (at-clearance-at .clearance-at .ensures l)
+    (ap valueBy (c .before .before .what .given .1)) (rw (c .min .ensures)))
 
 returns-3 : tie.Need-returns-3
 unfolding endValue exec

@@ -14,7 +14,8 @@ use Rattle.arrival.proofs.find_root.Tie as tie
 
 abbrev Inv-loop : tie.InvT-loop
 Inv-loop sheet index arc guess s₀ q₀ left₀ s q left =
-    (l : Log) → exec (courseOf sheet) q (rootFrom inM (clearanceAt arc) left s l) ≡ exec (courseOf sheet) q₀ (rootFrom inM (clearanceAt arc) left₀ s₀ l)
+    (l : Log) → exec (courseOf sheet) q (rootFrom inM (clearanceAt arc) left s l) ≡ exec (courseOf sheet) q₀
+    (rootFrom inM (clearanceAt arc) left₀ s₀ l)
 
 abbrev μ-loop : tie.MeasureT-loop
 μ-loop sheet index arc guess s₀ q₀ left₀ s q left = left
@@ -23,7 +24,9 @@ loop-holds : tie.Need-loop-holds Inv-loop μ-loop
 loop-holds c = λ l. refl
 
 clearance-at-requires : tie.Need-clearance-at-requires Inv-loop μ-loop
-clearance-at-requires c κs = c .before .before .before .before .before .before .pre
+clearance-at-requires c κs =
+    let at-start = c .before .before .before .before .before .before in
+    at-start .pre
 
 enum-known-what : tie.Need-enum-known-what Inv-loop μ-loop
 enum-known-what c = search needs
@@ -33,17 +36,28 @@ enum-told c = search needs
 
 returns : tie.Need-returns Inv-loop μ-loop
 unfolding findRoot
-returns c = λ l. rw (← c .before .before .before .before .before .before .before .start-search .ensures)
-    (root-off _ _ _ _ l (c .before .before .before .before .before .loop-test .taken) (rw (c .before .before .before .before .in-bracket .ensures) at (c .before .before .before .clearance-at .ensures l)) (ap valueBy (c .enum-told .given .1)) ∙ c .before .before .before .before .before .before .loop .inv l)
+returns c =
+    let at-clearance-at = c .before .before .before in
+    let at-loop = at-clearance-at .before .before .before in
+    λ l. rw (← at-loop .before .start-search .ensures)
+    (root-off _ _ _ _ l (at-clearance-at .before .before .loop-test .taken)
+    (rw (at-clearance-at .before .in-bracket .ensures) at (at-clearance-at .clearance-at .ensures l))
+    (ap valueBy (c .enum-told .given .1)) ∙ at-loop .loop .inv l)
 
 enum-known-step : tie.Need-enum-known-step Inv-loop μ-loop
 enum-known-step c = search needs
 
 returns-2 : tie.Need-returns-2 Inv-loop μ-loop
 unfolding findRoot exec
-returns-2 c = λ l. rw (← c .before .before .before .before .before .before .before .before .before .before .before .before .start-search .ensures)
-    (root-on _ _ _ _ l (c .before .before .before .before .before .before .before .before .before .before .loop-test .taken) (rw (c .before .before .before .before .before .before .before .before .before .in-bracket .ensures) at (c .before .before .before .before .before .before .before .before .clearance-at .ensures l)) (ap valueBy (c .before .before .before .before .before .what .given .1))
-    (rw (← c .before .before .before .before .before .before .before .before .before .in-bracket .ensures, ← c .before .before .before .narrow .ensures, c .before .step .given .1)) ∙ c .before .before .before .before .before .before .before .before .before .before .before .loop .inv l)
+returns-2 c =
+    let at-narrow = c .before .before .before in
+    let at-clearance-at = at-narrow .before .before .before .before .before in
+    let at-loop = at-clearance-at .before .before .before in
+    λ l. rw (← at-loop .before .start-search .ensures)
+    (root-on _ _ _ _ l (at-clearance-at .before .before .loop-test .taken)
+    (rw (at-clearance-at .before .in-bracket .ensures) at (at-clearance-at .clearance-at .ensures l))
+    (ap valueBy (at-narrow .before .before .what .given .1))
+    (rw (← at-clearance-at .before .in-bracket .ensures, ← at-narrow .narrow .ensures, c .before .step .given .1)) ∙ at-loop .loop .inv l)
 
 enum-known-step-2 : tie.Need-enum-known-step-2 Inv-loop μ-loop
 enum-known-step-2 c = search needs
@@ -55,13 +69,21 @@ loop-less : tie.Need-loop-less Inv-loop μ-loop
 loop-less c = omega arith
 
 loop-again : tie.Need-loop-again Inv-loop μ-loop
-loop-again c = λ l.
-    root-on _ _ _ _ l (c .before .before .before .before .before .before .before .before .before .before .loop-test .taken) (rw (c .before .before .before .before .before .before .before .before .before .in-bracket .ensures) at (c .before .before .before .before .before .before .before .before .clearance-at .ensures l)) (ap valueBy (c .before .before .before .before .before .what .given .1))
-    (rw (← c .before .before .before .before .before .before .before .before .before .in-bracket .ensures, ← c .before .before .before .narrow .ensures, c .before .step2 .given .1)) ∙ c .before .before .before .before .before .before .before .before .before .before .before .loop .inv l
+loop-again c =
+    let at-narrow = c .before .before .before in
+    let at-clearance-at = at-narrow .before .before .before .before .before in
+    let at-loop = at-clearance-at .before .before .before in
+    λ l.
+    root-on _ _ _ _ l (at-clearance-at .before .before .loop-test .taken)
+    (rw (at-clearance-at .before .in-bracket .ensures) at (at-clearance-at .clearance-at .ensures l))
+    (ap valueBy (at-narrow .before .before .what .given .1))
+    (rw (← at-clearance-at .before .in-bracket .ensures, ← at-narrow .narrow .ensures, c .before .step2 .given .1)) ∙ at-loop .loop .inv l
 
 returns-3 : tie.Need-returns-3 Inv-loop μ-loop
 unfolding findRoot
-returns-3 c = λ l. rw (← c .before .before .before .start-search .ensures)
+returns-3 c =
+    let at-start-search = c .before .before .before in
+    λ l. rw (← at-start-search .start-search .ensures)
     (root-out _ _ _ _ l _ (c .before .loop-test .left) ∙ c .before .before .loop .inv l)
 
 pub find-root-spec : {M : Type 1} → statement M

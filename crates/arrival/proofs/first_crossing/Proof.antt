@@ -26,7 +26,9 @@ loop-holds : tie.Need-loop-holds Inv-loop μ-loop
 loop-holds c = ((λ l. refl), omega arith)
 
 sub-step-requires : tie.Need-sub-step-requires Inv-loop μ-loop
-sub-step-requires c κs = c .before .before .before .before .before .pre
+sub-step-requires c κs =
+    let at-start = c .before .before .before .before .before in
+    at-start .pre
 
 enum-known-how : tie.Need-enum-known-how Inv-loop μ-loop
 enum-known-how c = search needs
@@ -37,27 +39,43 @@ enum-told c = search needs
 returns : tie.Need-returns Inv-loop μ-loop
 unfolding firstCrossing
 returns c =
-    let e : 9 - c .before .before .before .before .before .loop .i ≡ suc (8 - c .before .before .before .before .before .loop .i) = omega (arith, c .before .before .before .before .loop-test .taken) in
-    λ l. rw (← c .before .before .before .before .before .before .at-start .ensures) (crossing-off _ _ _ _ _ _ _ l e (c .before .before .before .sub-step .ensures l) (ap subStepBy (c .enum-told .given .1)) ∙ c .before .before .before .before .before .loop .inv .0 l)
+    let at-sub-step = c .before .before .before in
+    let at-at-start = at-sub-step .before .before .before in
+    let e : 9 - at-sub-step .before .before .loop .i ≡ suc (8 - at-sub-step .before .before .loop .i) = omega
+    (arith, at-sub-step .before .loop-test .taken) in
+    λ l. rw (← at-at-start .at-start .ensures) (crossing-off _ _ _ _ _ _ _ l e (at-sub-step .sub-step .ensures l)
+    (ap subStepBy (c .enum-told .given .1)) ∙ at-sub-step .before .before .loop .inv .0 l)
 
 returns-2 : tie.Need-returns-2 Inv-loop μ-loop
 unfolding firstCrossing ofBits round
 returns-2 c =
-    let e : 9 - c .before .before .before .before .before .before .before .before .loop .i ≡ suc (8 - c .before .before .before .before .before .before .before .before .loop .i) = omega (arith, c .before .before .before .before .before .before .before .loop-test .taken) in
-    λ l. rw (← c .before .before .before .before .before .before .before .before .before .at-start .ensures) (crossing-at _ _ _ _ _ _ _ l e (c .before .before .before .before .before .before .sub-step .ensures l) (ap subStepBy (c .before .before .before .how .given .1)) (c .if1 .taken) ∙ c .before .before .before .before .before .before .before .before .loop .inv .0 l)
+    let at-how = c .before .before .before in
+    let at-sub-step = at-how .before .before .before in
+    let at-at-start = at-sub-step .before .before .before in
+    let e : 9 - at-sub-step .before .before .loop .i ≡ suc (8 - at-sub-step .before .before .loop .i) = omega
+    (arith, at-sub-step .before .loop-test .taken) in
+    λ l. rw (← at-at-start .at-start .ensures) (crossing-at _ _ _ _ _ _ _ l e (at-sub-step .sub-step .ensures l)
+    (ap subStepBy (at-how .how .given .1)) (c .if1 .taken) ∙ at-sub-step .before .before .loop .inv .0 l)
 
 add-i : tie.Need-add-i Inv-loop μ-loop
 add-i c = omega arith
 
 loop-less : tie.Need-loop-less Inv-loop μ-loop
-loop-less c = omega (arith, c .before .before .before .before .before .before .before .loop-test .taken)
+loop-less c =
+    let at-sub-step = c .before .before .before .before .before .before in
+    let at-loop-test = at-sub-step .before in
+    omega (arith, at-loop-test .loop-test .taken)
 
 loop-again : tie.Need-loop-again Inv-loop μ-loop
 unfolding ofBits round
 loop-again c =
-    let e : 9 - c .before .before .before .before .before .before .before .before .loop .i ≡ suc (9 - (c .before .before .before .before .before .before .before .before .loop .i + 1)) = omega (arith, c .before .before .before .before .before .before .before .loop-test .taken) in (
-      (λ l. crossing-on _ _ _ _ _ _ _ l e (c .before .before .before .before .before .before .sub-step .ensures l) (ap subStepBy (c .before .before .before .how .given .1)) (c .if1 .left) ∙ c .before .before .before .before .before .before .before .before .loop .inv .0 l),
-      omega (arith, c .before .before .before .before .before .before .before .loop-test .taken),
+    let at-how = c .before .before .before in
+    let at-sub-step = at-how .before .before .before in
+    let e : 9 - at-sub-step .before .before .loop .i ≡ suc (9 - (at-sub-step .before .before .loop .i + 1)) = omega
+    (arith, at-sub-step .before .loop-test .taken) in (
+      (λ l. crossing-on _ _ _ _ _ _ _ l e (at-sub-step .sub-step .ensures l) (ap subStepBy (at-how .how .given .1))
+          (c .if1 .left) ∙ at-sub-step .before .before .loop .inv .0 l),
+      omega (arith, at-sub-step .before .loop-test .taken),
     )
 
 returns-3 : tie.Need-returns-3 Inv-loop μ-loop

@@ -20,10 +20,15 @@ enum-told c = search needs
 
 returns : tie.Need-returns
 unfolding hopArrival ofBits round
-returns c = λ l. halted _ _ _ _ l (c .before .before .before .clearance-at .ensures l) (ap valueBy (c .enum-told .given .1))
+returns c =
+    let at-clearance-at = c .before .before .before in
+    λ l. halted _ _ _ _ l (at-clearance-at .clearance-at .ensures l) (ap valueBy (c .enum-told .given .1))
 
 first-crossing-requires : tie.Need-first-crossing-requires
-first-crossing-requires c κs = c .before .before .before .before .before .before .before .pre
+first-crossing-requires c κs =
+    let at-shared-slice-known = c .before .before .before .before .before .before in
+    let at-start = at-shared-slice-known .before in
+    at-start .pre
 
 enum-told-2 : tie.Need-enum-told-2
 enum-told-2 c = search needs
@@ -35,7 +40,10 @@ enum-known-how : tie.Need-enum-known-how
 enum-known-how c = search needs
 
 crossing-time-requires : tie.Need-crossing-time-requires
-crossing-time-requires c κs = c .before .before .before .before .before .before .before .before .before .before .before .before .pre
+crossing-time-requires c κs =
+    let at-what = c .before .before .before .before .before .before in
+    let at-start = at-what .before .before .before .before .before .before in
+    at-start .pre
 
 enum-known-time : tie.Need-enum-known-time
 enum-known-time c = search needs
@@ -45,13 +53,22 @@ enum-told-4 c = search needs
 
 returns-2 : tie.Need-returns-2
 unfolding hopArrival ofBits round
-returns-2 c = λ l.
-    went _ _ _ _ l (c .before .before .before .before .before .before .before .before .before .before .before .before .before .clearance-at .ensures l) (ap valueBy (c .before .before .before .before .before .before .before .before .before .before .what .given .1))
-    (went _ _ _ _ l (c .before .before .before .before .before .before .before .before .first-crossing .ensures l) (ap crossingBy (c .before .before .before .before .before .how .given .1))
-    (halted _ _ _ _ l (c .before .before .before .crossing-time .ensures l) (ap valueBy (c .enum-told4 .given .1))))
+returns-2 c =
+    let at-crossing-time = c .before .before .before in
+    let at-first-crossing = at-crossing-time .before .before .before .before .before in
+    let at-clearance-at = at-first-crossing .before .before .before .before .before in
+    λ l.
+    went _ _ _ _ l (at-clearance-at .clearance-at .ensures l) (ap valueBy (at-first-crossing .before .before .what .given .1))
+    (went _ _ _ _ l (at-first-crossing .first-crossing .ensures l) (ap crossingBy (at-crossing-time .before .before .how .given .1))
+    (halted _ _ _ _ l (at-crossing-time .crossing-time .ensures l) (ap valueBy (c .enum-told4 .given .1))))
 
 look-at-requires : tie.Need-look-at-requires
-look-at-requires c κs = c .before .before .before .before .before .before .before .before .before .before .before .before .before .before .before .before .before .before .before .pre
+look-at-requires c κs =
+    let at-crossing-time = c .before .before .before .before .before .before in
+    let at-known-told = at-crossing-time .before .before .before .before .before .before in
+    let at-shared-slice-known = at-known-told .before .before .before .before .before .before in
+    let at-start = at-shared-slice-known .before in
+    at-start .pre
 
 enum-known-under : tie.Need-enum-known-under
 enum-known-under c = search needs
@@ -61,32 +78,50 @@ enum-told-5 c = search needs
 
 returns-3 : tie.Need-returns-3
 unfolding hopArrival ofBits round
-returns-3 c = λ l.
-    went _ _ _ _ l (c .before .before .before .before .before .before .before .before .before .before .before .before .before .before .before .before .before .before .before .before .clearance-at .ensures l) (ap valueBy (c .before .before .before .before .before .before .before .before .before .before .before .before .before .before .before .before .before .what .given .1))
-    (went _ _ _ _ l (c .before .before .before .before .before .before .before .before .before .before .before .before .before .before .before .first-crossing .ensures l) (ap crossingBy (c .before .before .before .before .before .before .before .before .before .before .before .before .how .given .1))
-    (went _ _ _ _ l (c .before .before .before .before .before .before .before .before .before .before .crossing-time .ensures l) (ap valueBy (c .before .before .before .before .before .before .before .time .given .1))
-    (look-off _ _ _ _ _ _ (rw (c .before .before .before .before .before .arc-at .ensures) at (c .before .before .before .look-at .ensures)) (c .enum-told5 .given .1))))
+returns-3 c =
+    let at-look-at = c .before .before .before in
+    let at-time = at-look-at .before .before .before .before in
+    let at-crossing-time = at-time .before .before .before in
+    let at-first-crossing = at-crossing-time .before .before .before .before .before in
+    let at-clearance-at = at-first-crossing .before .before .before .before .before in
+    λ l.
+    went _ _ _ _ l (at-clearance-at .clearance-at .ensures l) (ap valueBy (at-first-crossing .before .before .what .given .1))
+    (went _ _ _ _ l (at-first-crossing .first-crossing .ensures l) (ap crossingBy (at-crossing-time .before .before .how .given .1))
+    (went _ _ _ _ l (at-crossing-time .crossing-time .ensures l) (ap valueBy (at-time .time .given .1))
+    (look-off _ _ _ _ _ _ (rw (at-look-at .before .before .arc-at .ensures) at (at-look-at .look-at .ensures)) (c .enum-told5 .given .1))))
 
 returns-4 : tie.Need-returns-4
 unfolding hopArrival ofBits round
-returns-4 c = λ l.
-    went _ _ _ _ l (c .before .before .before .before .before .before .before .before .clearance-at .ensures l) (ap valueBy (c .before .before .before .before .before .what .given .1))
-    (halted _ _ _ _ l (c .before .before .before .first-crossing .ensures l) (ap crossingBy (c .enum-told2 .given .1)))
+returns-4 c =
+    let at-first-crossing = c .before .before .before in
+    let at-clearance-at = at-first-crossing .before .before .before .before .before in
+    λ l.
+    went _ _ _ _ l (at-clearance-at .clearance-at .ensures l) (ap valueBy (at-first-crossing .before .before .what .given .1))
+    (halted _ _ _ _ l (at-first-crossing .first-crossing .ensures l) (ap crossingBy (c .enum-told2 .given .1)))
 
 returns-5 : tie.Need-returns-5
 unfolding hopArrival ofBits round exec
-returns-5 c = λ l.
-    went _ _ _ _ l (c .before .before .before .before .before .before .before .before .clearance-at .ensures l) (ap valueBy (c .before .before .before .before .before .what .given .1))
-    (went _ _ _ _ l (c .before .before .before .first-crossing .ensures l) (ap crossingBy (c .enum-told3 .given .1)) refl)
+returns-5 c =
+    let at-first-crossing = c .before .before .before in
+    let at-clearance-at = at-first-crossing .before .before .before .before .before in
+    λ l.
+    went _ _ _ _ l (at-clearance-at .clearance-at .ensures l) (ap valueBy (at-first-crossing .before .before .what .given .1))
+    (went _ _ _ _ l (at-first-crossing .first-crossing .ensures l) (ap crossingBy (c .enum-told3 .given .1)) refl)
 
 returns-6 : tie.Need-returns-6
 unfolding hopArrival ofBits round exec
-returns-6 c = λ l.
-    went _ _ _ _ l (c .before .before .before .before .before .before .before .before .before .before .before .before .before .before .before .before .before .before .before .before .before .before .clearance-at .ensures l) (ap valueBy (c .before .before .before .before .before .before .before .before .before .before .before .before .before .before .before .before .before .before .before .what .given .1))
-    (went _ _ _ _ l (c .before .before .before .before .before .before .before .before .before .before .before .before .before .before .before .before .before .first-crossing .ensures l) (ap crossingBy (c .before .before .before .before .before .before .before .before .before .before .before .before .before .before .how .given .1))
-    (went _ _ _ _ l (c .before .before .before .before .before .before .before .before .before .before .before .before .crossing-time .ensures l) (ap valueBy (c .before .before .before .before .before .before .before .before .before .time .given .1))
-    (look-saw _ _ _ _ _ _ (rw (c .before .before .before .before .before .before .before .arc-at .ensures) at (c .before .before .before .before .before .look-at .ensures)) (c .before .before .under .given .1)
-    (rw (c .place .ensures, c .before .before .before .before .before .before .before .arc-at .ensures)))))
+returns-6 c =
+    let at-look-at = c .before .before .before .before .before in
+    let at-time = at-look-at .before .before .before .before in
+    let at-crossing-time = at-time .before .before .before in
+    let at-first-crossing = at-crossing-time .before .before .before .before .before in
+    let at-clearance-at = at-first-crossing .before .before .before .before .before in
+    λ l.
+    went _ _ _ _ l (at-clearance-at .clearance-at .ensures l) (ap valueBy (at-first-crossing .before .before .what .given .1))
+    (went _ _ _ _ l (at-first-crossing .first-crossing .ensures l) (ap crossingBy (at-crossing-time .before .before .how .given .1))
+    (went _ _ _ _ l (at-crossing-time .crossing-time .ensures l) (ap valueBy (at-time .time .given .1))
+    (look-saw _ _ _ _ _ _ (rw (at-look-at .before .before .arc-at .ensures) at (at-look-at .look-at .ensures)) (c .before .before .under .given .1)
+    (rw (c .place .ensures, at-look-at .before .before .arc-at .ensures)))))
 
 pub hop-arrival-spec : {M : Type 1} → statement M
 hop-arrival-spec =

@@ -18,7 +18,9 @@ int-to-float-x : tie.Need-int-to-float-x
 int-to-float-x c = search needs
 
 clearance-at-requires : tie.Need-clearance-at-requires
-clearance-at-requires c κs = c .before .before .before .before .before .pre
+clearance-at-requires c κs =
+    let at-start = c .before .before .before .before .before in
+    at-start .pre
 
 enum-known-what : tie.Need-enum-known-what
 enum-known-what c = search needs
@@ -28,11 +30,18 @@ enum-told c = search needs
 
 returns-2 : tie.Need-returns-2
 unfolding subStep ofBits round
-returns-2 c = λ l. rw (ne-eqb _ _ (c .before .before .before .before .before .before .if1 .left)) (halted _ _ _ _ l (c .before .before .before .clearance-at .ensures l) (ap valueBy (c .enum-told .given .1)))
+returns-2 c =
+    let at-clearance-at = c .before .before .before in
+    let at-if1 = at-clearance-at .before .before .before in
+    λ l. rw (ne-eqb _ _ (at-if1 .if1 .left)) (halted _ _ _ _ l (at-clearance-at .clearance-at .ensures l) (ap valueBy (c .enum-told .given .1)))
 
 returns-3 : tie.Need-returns-3
 unfolding subStep ofBits round exec
-returns-3 c = λ l. rw (ne-eqb _ _ (c .before .before .before .before .before .before .before .before .if1 .left)) (went _ _ _ _ l (c .before .before .before .before .before .clearance-at .ensures l) (ap valueBy (c .before .before .what .given .1)) (rw (c .advance2 .ensures)))
+returns-3 c =
+    let at-clearance-at = c .before .before .before .before .before in
+    let at-if1 = at-clearance-at .before .before .before in
+    λ l. rw (ne-eqb _ _ (at-if1 .if1 .left)) (went _ _ _ _ l (at-clearance-at .clearance-at .ensures l)
+    (ap valueBy (c .before .before .what .given .1)) (rw (c .advance2 .ensures)))
 
 pub sub-step-spec : {M : Type 1} → statement M
 sub-step-spec =

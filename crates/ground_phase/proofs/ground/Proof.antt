@@ -19,7 +19,7 @@ use Rattle.ground_phase.proofs.ground.Tie as tie
 abbrev Inv-loop : tie.InvT-loop
 Inv-loop sheet index points₀ c g₀ t₀ points g t = (lc : List Float) →
     Midway (courseOf sheet) c (λ g. isLate (g .state .time) (c .«t_end»)) (λ g. timeUp (g .state) (lastPhase (g .last))) (groundStep c) g₀
-        (place t₀ lc points₀) g (place t lc points)
+    (place t₀ lc points₀) g (place t lc points)
 
 abbrev μ-loop : tie.MeasureT-loop
 μ-loop sheet index points₀ c g₀ t₀ points g t = c .«step_limit» - t .steps
@@ -51,9 +51,11 @@ returns-2 : tie.Need-returns-2 Inv-loop μ-loop
 unfolding groundFrom
 returns-2 c lc =
     let at-if1 = c .before .before .before in
-    let at-loop = at-if1 .before .before .before in
-    (sym (at-if1 .before .is-late .ensures) ∙ at-if1 .if1 .left, ends-due
-    (at-loop .loop .inv lc) (c .if2 .taken))
+    let at-loop = at-if1 .before .before .before in (
+      sym (at-if1 .before .is-late .ensures) ∙ at-if1 .if1 .left,
+      ends-due
+          (at-loop .loop .inv lc) (c .if2 .taken),
+    )
 
 ground-step-requires : tie.Need-ground-step-requires Inv-loop μ-loop
 ground-step-requires c κs =
@@ -75,8 +77,8 @@ loop-again c lc =
     let at-if1 = at-ground-step .before .before .before .before .before in
     let at-loop = at-if1 .before .before .before in
     goes-on (at-loop .loop .inv lc)
-        (sym (at-if1 .before .is-late .ensures) ∙ at-if1 .if1 .left) (at-ground-step .before .before .if2 .left)
-            (rw (c .before .pass .given .1) at (at-ground-step .ground-step .ensures lc)) refl
+    (sym (at-if1 .before .is-late .ensures) ∙ at-if1 .if1 .left) (at-ground-step .before .before .if2 .left)
+    (rw (c .before .pass .given .1) at (at-ground-step .ground-step .ensures lc)) refl
 
 enum-known-pass-2 : tie.Need-enum-known-pass-2 Inv-loop μ-loop
 enum-known-pass-2 c = search needs
@@ -95,8 +97,8 @@ returns-3 c lc =
     let at-if1 = at-ground-step .before .before .before .before .before in
     let at-loop = at-if1 .before .before .before in
     ends-done (at-loop .loop .inv lc)
-        (sym (at-if1 .before .is-late .ensures) ∙ at-if1 .if1 .left) (at-ground-step .before .before .if2 .left)
-            (rw (c .before .pass2 .given .1) at (at-ground-step .ground-step .ensures lc)) _ refl
+    (sym (at-if1 .before .is-late .ensures) ∙ at-if1 .if1 .left) (at-ground-step .before .before .if2 .left)
+    (rw (c .before .pass2 .given .1) at (at-ground-step .ground-step .ensures lc)) _ refl
 
 enum-known-pass-3 : tie.Need-enum-known-pass-3 Inv-loop μ-loop
 enum-known-pass-3 c = search needs
@@ -115,8 +117,8 @@ returns-4 c lc =
     let at-if1 = at-ground-step .before .before .before .before .before in
     let at-loop = at-if1 .before .before .before in
     ends-done (at-loop .loop .inv lc)
-        (sym (at-if1 .before .is-late .ensures) ∙ at-if1 .if1 .left) (at-ground-step .before .before .if2 .left)
-            (rw (c .before .pass3 .given .1) at (at-ground-step .ground-step .ensures lc)) _ refl
+    (sym (at-if1 .before .is-late .ensures) ∙ at-if1 .if1 .left) (at-ground-step .before .before .if2 .left)
+    (rw (c .before .pass3 .given .1) at (at-ground-step .ground-step .ensures lc)) _ refl
 
 pub ground-spec : {M : Type 1} → statement M
 ground-spec =

@@ -18,7 +18,7 @@ use Rattle.hop.proofs.hop.Tie as tie
 abbrev Inv-loop : tie.InvT-loop
 Inv-loop sheet index points₀ c aero f₀ t₀ points f t = (lc : List Float) →
     Midway (courseOf sheet) c (λ f. isLate (f .state .time) (c .«t_end»)) (λ f. pure (Late (f .state))) (hopStep c aero) f₀ (place t₀ lc points₀) f
-        (place t lc points)
+    (place t lc points)
 
 abbrev μ-loop : tie.MeasureT-loop
 μ-loop sheet index points₀ c aero f₀ t₀ points f t = c .«step_limit» - t .steps
@@ -36,7 +36,7 @@ unfolding hopFrom
 returns c lc =
     let at-loop = c .before .before .before in
     rw (← at-loop .before .from-spin-vector .ensures)
-        (ends-late (at-loop .loop .inv lc) (sym (c .before .is-late .ensures) ∙ c .if1 .taken) (stands _ _ _))
+    (ends-late (at-loop .loop .inv lc) (sym (c .before .is-late .ensures) ∙ c .if1 .taken) (stands _ _ _))
 
 same-length-2 : tie.Need-same-length-2 Inv-loop μ-loop
 same-length-2 c =
@@ -49,7 +49,7 @@ returns-2 c lc =
     let at-if1 = c .before .before .before in
     let at-loop = at-if1 .before .before .before in
     rw (← at-loop .before .from-spin-vector .ensures)
-        (sym (at-if1 .before .is-late .ensures) ∙ at-if1 .if1 .left, ends-due (at-loop .loop .inv lc) (c .if2 .taken))
+    (sym (at-if1 .before .is-late .ensures) ∙ at-if1 .if1 .left, ends-due (at-loop .loop .inv lc) (c .if2 .taken))
 
 hop-step-requires : tie.Need-hop-step-requires Inv-loop μ-loop
 hop-step-requires c κs =
@@ -72,7 +72,7 @@ loop-again c lc =
     let at-if1 = at-hop-step .before .before .before .before .before in
     let at-loop = at-if1 .before .before .before in
     goes-on (at-loop .loop .inv lc) (sym (at-if1 .before .is-late .ensures) ∙ at-if1 .if1 .left) (at-hop-step .before .before .if2 .left)
-        (rw (c .before .pass .given .1) at (at-hop-step .hop-step .ensures lc)) refl
+    (rw (c .before .pass .given .1) at (at-hop-step .hop-step .ensures lc)) refl
 
 enum-known-pass-2 : tie.Need-enum-known-pass-2 Inv-loop μ-loop
 enum-known-pass-2 c = search needs
@@ -92,7 +92,7 @@ returns-3 c lc =
     let at-loop = at-if1 .before .before .before in
     rw (← at-loop .before .from-spin-vector .ensures)
     (ends-done (at-loop .loop .inv lc) (sym (at-if1 .before .is-late .ensures) ∙ at-if1 .if1 .left) (at-hop-step .before .before .if2 .left)
-        (rw (c .before .pass2 .given .1) at (at-hop-step .hop-step .ensures lc)) _ refl)
+    (rw (c .before .pass2 .given .1) at (at-hop-step .hop-step .ensures lc)) _ refl)
 
 enum-known-pass-3 : tie.Need-enum-known-pass-3 Inv-loop μ-loop
 enum-known-pass-3 c = search needs
@@ -112,7 +112,7 @@ returns-4 c lc =
     let at-loop = at-if1 .before .before .before in
     rw (← at-loop .before .from-spin-vector .ensures)
     (ends-done (at-loop .loop .inv lc) (sym (at-if1 .before .is-late .ensures) ∙ at-if1 .if1 .left) (at-hop-step .before .before .if2 .left)
-        (rw (c .before .pass3 .given .1) at (at-hop-step .hop-step .ensures lc)) _ refl)
+    (rw (c .before .pass3 .given .1) at (at-hop-step .hop-step .ensures lc)) _ refl)
 
 pub hop-spec : {M : Type 1} → statement M
 hop-spec =

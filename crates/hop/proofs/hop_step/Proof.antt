@@ -64,7 +64,7 @@ came-clear c lc = cleared _ _ (came-test (good (clear c)) lc) (clear c .clear .e
 -- no crossing, and whether a point is due
 came-none : (c : tie.After-push-due) → let m = c .before .before .before .before in
     Came (test (good (clear (end (m .before .before)))))
-        (λ f arc. toDue f (ball (test (good (clear (end (m .before .before)))))) (c .before .before .is-due .result)) (m .met3 .given .0 .0)
+    (λ f arc. toDue f (ball (test (good (clear (end (m .before .before)))))) (c .before .before .is-due .result)) (m .met3 .given .0 .0)
 came-none c lc =
     let m = c .before .before .before .before in
     let a = m .before .before in
@@ -124,7 +124,7 @@ returns-3 c lc =
     let m = at-met2 in
     let a = m .before .before in
     ended (state-bad _ (arrived _ _ _ _ _ (came-clear (end a) lc) (a .arrive .ensures) (m .met2 .given .1)) refl (c .before .before .test2 .ensures)
-        (c .enum-told3 .given .1))
+    (c .enum-told3 .given .1))
 
 enum-known-met-3 : tie.Need-enum-known-met-3
 enum-known-met-3 c = search needs
@@ -159,7 +159,7 @@ returns-6 c lc =
     let m = at-test2 .before .before in
     let a = m .before .before in
     ended (state-good _ (arrived _ _ _ _ _ (came-clear (end a) lc) (a .arrive .ensures) (m .met2 .given .1)) refl (at-test2 .test2 .ensures)
-        (c .before .t5 .given .1))
+    (c .before .t5 .given .1))
 
 same-length-2 : tie.Need-same-length-2
 same-length-2 c =

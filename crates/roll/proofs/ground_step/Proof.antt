@@ -73,7 +73,8 @@ came-step c lc = stepped _ _ (step c .step-on .ensures) (c .before .before .poin
 came-push : (c : tie.After-t2) → Came (push c) toLook (c .t2 .given .0 .0) (points (push c))
 came-push c lc = due-pushed _ _ _ _ (came-step (push c) lc) (push c .push-due .ensures) (c .t2 .given .1)
 
-came-look : (c : tie.After-under) → let p = on-push (look c) in Came (push p) (λ e g s d. toTest e g s d (under c)) (c .under .given .0 .1 .0) (points (push p))
+came-look : (c : tie.After-under) → let p = on-push (look c) in Came (push p) (λ e g s d. toTest e g s d (under c)) (c .under .given .0 .1 .0)
+    (points (push p))
 came-look c lc = spot-seen _ _ _ (came-push (on-push (look c)) lc) (look c .look .ensures) (c .under .given .1)
 
 came-test : (c : tie.After-t4) → let u = seen (test c) in let p = on-push (look u) in

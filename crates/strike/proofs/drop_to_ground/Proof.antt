@@ -35,7 +35,7 @@ returns-2 c o lp =
     let at-t1 = at-push-contact .before .before .before in
     let at-leave-of = at-t1 .before .before .before in
     ended (contacts-full _ _ _ _ (state-good _ begun (at-leave-of .leave-of .ensures) (at-t1 .before .before .test .ensures) (at-t1 .t1 .given .1))
-        (at-push-contact .push-contact .ensures) (c .enum-told2 .given .1))
+    (at-push-contact .push-contact .ensures) (c .enum-told2 .given .1))
 
 same-length-2 : tie.Need-same-length-2
 same-length-2 c =
@@ -49,10 +49,10 @@ returns-3 c o lp =
     let at-t1 = at-push-contact .before .before .before in
     let at-leave-of = at-t1 .before .before .before in
     ended (contact-pushed _ _ _ _ (state-good _ begun (at-leave-of .leave-of .ensures) (at-t1 .before .before .test .ensures) (at-t1 .t1 .given .1))
-        (at-push-contact .push-contact .ensures) (c .before .t2 .given .1))
+    (at-push-contact .push-contact .ensures) (c .before .t2 .given .1))
 
 pub drop-to-ground-spec : {M : Type 1} → statement M
 drop-to-ground-spec =
     tie.close
     (tie.spec (λ c κs. tt) (λ c κs. tt) enum-known-t1 enum-told returns
-        (λ c κs. tt) enum-known-t2 enum-told-2 same-length returns-2 same-length-2 returns-3)
+    (λ c κs. tt) enum-known-t2 enum-told-2 same-length returns-2 same-length-2 returns-3)

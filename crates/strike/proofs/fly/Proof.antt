@@ -9,7 +9,7 @@ use lib.Ieee.{Float}
 use lib.ListN.{length}
 use Rattle.state.specs.declared.BallState.{BallState}
 use Rattle.course.specs.Sheet.{courseOf}
-use Rattle.tally.specs.Language.{M}
+use Rattle.tally.specs.Language.{M, pointWidth}
 use Rattle.tally.specs.Contracts.{place, Reached}
 use Rattle.tally.specs.declared.Conditions.{Conditions}
 use Rattle.tally.specs.declared.Tally.{Tally}
@@ -50,7 +50,8 @@ abbrev Came : tie.After-push-point → (Conditions → BallState → Struck → 
 Came c rest t l =
     let a = start c .args in
     (lc : List Float) → let p = place (a .t) lc (a .points .now) in
-    Reached (courseOf (a .sheet .now)) (fly (a .c) (a .hops) (a .state) (a .hit)) p (t .steps - a .t .steps) (rest (a .c) (a .state) (a .hit) (a .t)) (place t lc l)
+    Reached (courseOf (a .sheet .now)) (fly (a .c) (a .hops) (a .state) (a .hit)) p (t .steps - a .t .steps) (rest (a .c) (a .state) (a .hit) (a .t))
+    (place t lc l)
 
 came-push : (c : tie.After-push-point) → Came c (λ c state hit t. toPush c state hit (t .points)) (start c .args .t) (start c .args .points .now)
 came-push c lc = came (flying _ _ _ _ (out c .before .if1 .left))
@@ -68,7 +69,7 @@ came-way c lc =
     came (flew _ _ _ (came-hop (pushed h) lc) (h .before .flight-of .ensures) (h .hop .ensures) (c .flight3 .given .1))
 
 -- the mark's records fit in the list, before the hop and after it
-mark-fits : (c : tie.After-hop) → start (push (pushed c)) .args .t .points * 11 ≤ length (hop-points c)
+mark-fits : (c : tie.After-hop) → start (push (pushed c)) .args .t .points * pointWidth ≤ length (hop-points c)
 mark-fits c =
     let q = pushed c in
     let f = point-fits (courseOf (start (push q) .args .sheet .now)) _ _ (push q .push-point .ensures) (q .t1 .given .1) in
@@ -78,7 +79,8 @@ came-discard : (c : tie.After-truncate) → let f = kept-way c .before .before .
     Came (push (pushed (hop f))) (λ e state hit t. toGround e state hit (t .points)) (f .flight3 .given .0 .1 .0) (hop-points (hop f))
 came-discard c lc =
     let w = kept-way c in
-    hop-discarded _ _ _ _ _ (came-way (w .before .before .before) lc) (w .way .given .1) (c .before .before .before .dies-out .ensures) (c .before .before .if2 .left)
+    hop-discarded _ _ _ _ _ (came-way (w .before .before .before) lc) (w .way .given .1) (c .before .before .before .dies-out .ensures)
+    (c .before .before .if2 .left)
 
 -- ---- the answers
 

@@ -5,11 +5,37 @@ use Rattle.strike.proofs.leave_of.Tie as tie
 
 returns : tie.Need-returns
 unfolding dropped
-returns c = simp (← c .before .before .before .before .before .before .before .before .before .before .before .normalize .ensures, ← c .before .before .before .before .before .before .before .before .before .before .radius-m .ensures, ← c .before .before .before .before .before .before .before .before .before .dot .ensures, ← c .before .before .before .before .before .before .before .before .scale .ensures, ← c .before .before .before .before .before .before .before .sub .ensures, ← c .before .before .before .before .before .before .slip .ensures, ← c .before .before .before .before .before .length .ensures, ← c .before .before .lock-rolling .ensures, c .before .before .before .if1 .taken)
+returns c =
+    let at-if1 = c .before .before .before in
+    let at-slip = at-if1 .before .before .before in
+    let at-dot = at-slip .before .before .before in
+    simp (
+      ← at-dot .before .before .normalize .ensures,
+      ← at-dot .before .radius-m .ensures,
+      ← at-dot .dot .ensures,
+      ← at-slip .before .before .scale .ensures,
+      ← at-slip .before .sub .ensures,
+      ← at-slip .slip .ensures,
+      ← at-if1 .before .before .length .ensures,
+      ← c .before .before .lock-rolling .ensures,
+      at-if1 .if1 .taken,
+    )
 
 returns-2 : tie.Need-returns-2
 unfolding dropped
-returns-2 c = simp (← c .before .before .before .before .before .before .before .before .normalize .ensures, ← c .before .before .before .before .before .before .before .radius-m .ensures, ← c .before .before .before .before .before .before .dot .ensures, ← c .before .before .before .before .before .scale .ensures, ← c .before .before .before .before .sub .ensures, ← c .before .before .before .slip .ensures, ← c .before .before .length .ensures, c .if1 .left)
+returns-2 c =
+    let at-slip = c .before .before .before in
+    let at-dot = at-slip .before .before .before in
+    simp (
+      ← at-dot .before .before .normalize .ensures,
+      ← at-dot .before .radius-m .ensures,
+      ← at-dot .dot .ensures,
+      ← at-slip .before .before .scale .ensures,
+      ← at-slip .before .sub .ensures,
+      ← at-slip .slip .ensures,
+      ← c .before .before .length .ensures,
+      c .if1 .left,
+    )
 
 pub leave-of-spec : {M : Type 1} → statement M
 leave-of-spec =

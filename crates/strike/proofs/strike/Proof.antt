@@ -32,7 +32,7 @@ returns-2 c lc lp =
     let at-impact = c .before .before .before in
     let at-at = at-impact .before .before .before in
     ended (state-bad _ (spot-seen _ _ _ begun (at-at .before .before .look .ensures) (at-at .at .given .1)) (at-impact .impact .ensures)
-        (c .before .before .test .ensures) (c .enum-told2 .given .1))
+    (c .before .before .test .ensures) (c .enum-told2 .given .1))
 
 returns-3 : tie.Need-returns-3
 unfolding strike
@@ -40,7 +40,7 @@ returns-3 c lc lp =
     let at-test = c .before .before .before in
     let at-at = at-test .before .before .before .before in
     ended (state-good _ (spot-seen _ _ _ begun (at-at .before .before .look .ensures) (at-at .at .given .1)) (at-test .before .impact .ensures)
-        (at-test .test .ensures) (c .before .t2 .given .1))
+    (at-test .test .ensures) (c .before .t2 .given .1))
 
 pub strike-spec : {M : Type 1} → statement M
 strike-spec = tie.close (tie.spec look-requires enum-known-at enum-told returns (λ c κs. tt)

@@ -13,7 +13,10 @@ same-length : tie.Need-same-length
 same-length c = search needs
 
 returns : tie.Need-returns
-returns c = rw (c .before .before .before .before .before .before .before .before .before .nearest-u64-to-f64 .ensures) at (c .before .before .push .ensures)
+returns c =
+    let at-w = c .before .before .before .before .before .before in
+    let at-nearest-u64-to-f64 = at-w .before .before .before in
+    rw (at-nearest-u64-to-f64 .nearest-u64-to-f64 .ensures) at (c .before .before .push .ensures)
 
 pub write-contact-spec : {M : Type 1} → statement M
 write-contact-spec =

@@ -46,7 +46,7 @@ returns-2 c o =
     let at-t1 = at-push-point .before .before .before in
     let at-push-contact = at-t1 .before .before .before .before in
     ended (points-full _ _ _ (contact-pushed _ _ _ _ begun (at-push-contact .push-contact .ensures) (at-t1 .t1 .given .1))
-        (at-push-point .push-point .ensures) (c .enum-told2 .given .1))
+    (at-push-point .push-point .ensures) (c .enum-told2 .given .1))
 
 same-length-4 : tie.Need-same-length-4
 same-length-4 c =
@@ -66,7 +66,7 @@ returns-3 c o =
     let at-t1 = at-push-point .before .before .before in
     let at-push-contact = at-t1 .before .before .before .before in
     ended (point-pushed _ _ _ (contact-pushed _ _ _ _ begun (at-push-contact .push-contact .ensures) (at-t1 .t1 .given .1))
-        (at-push-point .push-point .ensures) (c .before .t2 .given .1))
+    (at-push-point .push-point .ensures) (c .before .t2 .given .1))
 
 pub last-impact-spec : {M : Type 1} → statement M
 last-impact-spec =

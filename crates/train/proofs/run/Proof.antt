@@ -78,8 +78,8 @@ returns-2 c =
     let at-strike-end = at-if1 .before .before .before .before in
     let at-strike = at-strike-end .before .before .before in
     ends-last _ _ _ _ _ (struck _ _ _ (at-strike .before .loop .inv .reached) (at-strike .strike .ensures) (at-strike-end .strike-end .given .1)
-        (at-if1 .before .before .rebounds .ensures)) (at-last-impact .last-impact .result)
-        (sym (at-if1 .before .is-last .ensures) ∙ at-if1 .if1 .taken) (at-last-impact .last-impact .ensures)
+    (at-if1 .before .before .rebounds .ensures)) (at-last-impact .last-impact .result)
+    (sym (at-if1 .before .is-last .ensures) ∙ at-if1 .if1 .taken) (at-last-impact .last-impact .ensures)
 
 fly-requires : tie.Need-fly-requires Inv-loop μ-loop
 fly-requires c κs =
@@ -112,8 +112,8 @@ returns-3 c =
     let at-strike-end = at-is-last .before .before .before in
     let at-strike = at-strike-end .before .before .before in
     ends-flight _ _ _ _ _ (struck _ _ _ (at-strike .before .loop .inv .reached) (at-strike .strike .ensures) (at-strike-end .strike-end .given .1)
-        (at-is-last .before .rebounds .ensures)) (sym (at-is-last .is-last .ensures) ∙ at-fly .before .before .if1 .left) (at-fly .fly .ensures)
-        (c .before .how .given .1)
+    (at-is-last .before .rebounds .ensures)) (sym (at-is-last .is-last .ensures) ∙ at-fly .before .before .if1 .left) (at-fly .fly .ensures)
+    (c .before .how .given .1)
 
 enum-known-how-2 : tie.Need-enum-known-how-2 Inv-loop μ-loop
 enum-known-how-2 c = search needs
@@ -155,9 +155,9 @@ returns-4 c =
     let at-strike-end = at-is-last .before .before .before in
     let at-strike = at-strike-end .before .before .before in
     ends-drop _ _ _ _ _ (flown _ _ _ _ _ (struck _ _ _ (at-strike .before .loop .inv .reached) (at-strike .strike .ensures)
-        (at-strike-end .strike-end .given .1) (at-is-last .before .rebounds .ensures))
-        (sym (at-is-last .is-last .ensures) ∙ at-fly .before .before .if1 .left) (at-fly .fly .ensures) (at-how2 .how2 .given .1))
-        (at-drop-to-ground .before .before .enum-told2 .given .1) (at-drop-to-ground .drop-to-ground .ensures) (c .before .drop-end .given .1)
+    (at-strike-end .strike-end .given .1) (at-is-last .before .rebounds .ensures))
+    (sym (at-is-last .is-last .ensures) ∙ at-fly .before .before .if1 .left) (at-fly .fly .ensures) (at-how2 .how2 .given .1))
+    (at-drop-to-ground .before .before .enum-told2 .given .1) (at-drop-to-ground .drop-to-ground .ensures) (c .before .drop-end .given .1)
 
 enum-known-drop-end-2 : tie.Need-enum-known-drop-end-2 Inv-loop μ-loop
 enum-known-drop-end-2 c = search needs
@@ -196,9 +196,9 @@ returns-5 c =
     let at-strike-end = at-is-last .before .before .before in
     let at-strike = at-strike-end .before .before .before in
     on (ended (contacts-full _ _ _ _ (kept _ _ _ _ _
-        (flown _ _ _ _ _ (struck _ _ _ (at-strike .before .loop .inv .reached) (at-strike .strike .ensures) (at-strike-end .strike-end .given .1)
-        (at-is-last .before .rebounds .ensures)) (sym (at-is-last .is-last .ensures) ∙ at-fly .before .before .if1 .left) (at-fly .fly .ensures)
-        (at-how2 .how2 .given .1)) (at-flown .flown .given .1)) (at-push-contact .push-contact .ensures) (c .enum-told3 .given .1)))
+    (flown _ _ _ _ _ (struck _ _ _ (at-strike .before .loop .inv .reached) (at-strike .strike .ensures) (at-strike-end .strike-end .given .1)
+    (at-is-last .before .rebounds .ensures)) (sym (at-is-last .is-last .ensures) ∙ at-fly .before .before .if1 .left) (at-fly .fly .ensures)
+    (at-how2 .how2 .given .1)) (at-flown .flown .given .1)) (at-push-contact .push-contact .ensures) (c .enum-told3 .given .1)))
 
 enum-known-way : tie.Need-enum-known-way Inv-loop μ-loop
 enum-known-way c = search needs
@@ -235,11 +235,11 @@ loop-again c =
     let f = no-contact (at-fly .fly .ensures) in
     let k = contact-fits (courseOf (at-start .args .sheet .now)) _ _ _ (at-push-contact .push-contact .ensures) (at-t32 .t32 .given .1) in
     along _ _ _ _ _ _ _ (arrived _ _ _ (came (contact-pushed _ _ _ _
-        (kept _ _ _ _ _ (flown _ _ _ _ _ (struck _ _ _ (at-strike .before .loop .inv .reached) (at-strike .strike .ensures)
-        (at-strike-end .strike-end .given .1) (at-is-last .before .rebounds .ensures))
-        (sym (at-is-last .is-last .ensures) ∙ at-fly .before .before .if1 .left) (at-fly .fly .ensures) (at-how2 .how2 .given .1))
-        (at-flown .flown .given .1)) (at-push-contact .push-contact .ensures) (at-t32 .t32 .given .1))) (c .before .way .given .1))
-        (omega (arith, e, f, k .0)) (omega (arith, k .1, at-strike .before .loop .inv .reached .contacts .long))
+    (kept _ _ _ _ _ (flown _ _ _ _ _ (struck _ _ _ (at-strike .before .loop .inv .reached) (at-strike .strike .ensures)
+    (at-strike-end .strike-end .given .1) (at-is-last .before .rebounds .ensures))
+    (sym (at-is-last .is-last .ensures) ∙ at-fly .before .before .if1 .left) (at-fly .fly .ensures) (at-how2 .how2 .given .1))
+    (at-flown .flown .given .1)) (at-push-contact .push-contact .ensures) (at-t32 .t32 .given .1))) (c .before .way .given .1))
+    (omega (arith, e, f, k .0)) (omega (arith, k .1, at-strike .before .loop .inv .reached .contacts .long))
 
 enum-known-way-2 : tie.Need-enum-known-way-2 Inv-loop μ-loop
 enum-known-way-2 c = search needs
@@ -277,10 +277,10 @@ returns-6 c =
     let at-strike-end = at-is-last .before .before .before in
     let at-strike = at-strike-end .before .before .before in
     ends-late _ _ _ (came (contact-pushed _ _ _ _ (kept _ _ _ _ _
-        (flown _ _ _ _ _ (struck _ _ _ (at-strike .before .loop .inv .reached) (at-strike .strike .ensures) (at-strike-end .strike-end .given .1)
-        (at-is-last .before .rebounds .ensures)) (sym (at-is-last .is-last .ensures) ∙ at-fly .before .before .if1 .left) (at-fly .fly .ensures)
-        (at-how2 .how2 .given .1)) (at-flown .flown .given .1)) (at-push-contact .push-contact .ensures) (at-t32 .t32 .given .1)))
-        (c .before .before .time-up .result) (at-way2 .way2 .given .1) (c .before .before .time-up .ensures)
+    (flown _ _ _ _ _ (struck _ _ _ (at-strike .before .loop .inv .reached) (at-strike .strike .ensures) (at-strike-end .strike-end .given .1)
+    (at-is-last .before .rebounds .ensures)) (sym (at-is-last .is-last .ensures) ∙ at-fly .before .before .if1 .left) (at-fly .fly .ensures)
+    (at-how2 .how2 .given .1)) (at-flown .flown .given .1)) (at-push-contact .push-contact .ensures) (at-t32 .t32 .given .1)))
+    (c .before .before .time-up .result) (at-way2 .way2 .given .1) (c .before .before .time-up .ensures)
 
 ground-requires : tie.Need-ground-requires Inv-loop μ-loop
 ground-requires c κs =
@@ -333,10 +333,10 @@ returns-7 c =
     let at-strike-end = at-is-last .before .before .before in
     let at-strike = at-strike-end .before .before .before in
     ground-ran _ _ _ (dropped _ _ _ _ _ (flown _ _ _ _ _
-        (struck _ _ _ (at-strike .before .loop .inv .reached) (at-strike .strike .ensures) (at-strike-end .strike-end .given .1)
-        (at-is-last .before .rebounds .ensures)) (sym (at-is-last .is-last .ensures) ∙ at-fly .before .before .if1 .left) (at-fly .fly .ensures)
-        (at-how2 .how2 .given .1)) (at-drop-to-ground .before .before .enum-told2 .given .1) (at-drop-to-ground .drop-to-ground .ensures)
-        (at-drop-end2 .drop-end2 .given .1)) (at-ground .before .before .roll-of .ensures) (at-ground .ground .ensures) (c .before .ground2 .given .1)
+    (struck _ _ _ (at-strike .before .loop .inv .reached) (at-strike .strike .ensures) (at-strike-end .strike-end .given .1)
+    (at-is-last .before .rebounds .ensures)) (sym (at-is-last .is-last .ensures) ∙ at-fly .before .before .if1 .left) (at-fly .fly .ensures)
+    (at-how2 .how2 .given .1)) (at-drop-to-ground .before .before .enum-told2 .given .1) (at-drop-to-ground .drop-to-ground .ensures)
+    (at-drop-end2 .drop-end2 .given .1)) (at-ground .before .before .roll-of .ensures) (at-ground .ground .ensures) (c .before .ground2 .given .1)
 
 same-length-15 : tie.Need-same-length-15 Inv-loop μ-loop
 same-length-15 c =
@@ -372,10 +372,10 @@ returns-8 c =
     let at-strike-end = at-is-last .before .before .before in
     let at-strike = at-strike-end .before .before .before in
     ground-due _ _ _ (dropped _ _ _ _ _ (flown _ _ _ _ _
-        (struck _ _ _ (at-strike .before .loop .inv .reached) (at-strike .strike .ensures) (at-strike-end .strike-end .given .1)
-        (at-is-last .before .rebounds .ensures)) (sym (at-is-last .is-last .ensures) ∙ at-fly .before .before .if1 .left) (at-fly .fly .ensures)
-        (at-how2 .how2 .given .1)) (at-drop-to-ground .before .before .enum-told2 .given .1) (at-drop-to-ground .drop-to-ground .ensures)
-        (at-drop-end2 .drop-end2 .given .1)) (at-ground .before .before .roll-of .ensures) (at-ground .ground .ensures) (c .before .ground3 .given .1)
+    (struck _ _ _ (at-strike .before .loop .inv .reached) (at-strike .strike .ensures) (at-strike-end .strike-end .given .1)
+    (at-is-last .before .rebounds .ensures)) (sym (at-is-last .is-last .ensures) ∙ at-fly .before .before .if1 .left) (at-fly .fly .ensures)
+    (at-how2 .how2 .given .1)) (at-drop-to-ground .before .before .enum-told2 .given .1) (at-drop-to-ground .drop-to-ground .ensures)
+    (at-drop-end2 .drop-end2 .given .1)) (at-ground .before .before .roll-of .ensures) (at-ground .ground .ensures) (c .before .ground3 .given .1)
 
 pub run-spec : {M : Type 1} → statement M
 run-spec =
