@@ -1,4 +1,4 @@
--- Where a hop step meets the ground: ground.rs, fn clearance, fn first_crossing and fn hop_arrival.
+-- Definitions. Where a hop step meets the ground: ground.rs, fn clearance, fn first_crossing and fn hop_arrival.
 use Prim.Native.Nat.{ℕ, zero, suc, _+_}
 use mathlib.Core.Bool.{cond}
 use mathlib.Core.Option.{Option, none, some}

@@ -1,4 +1,4 @@
--- The places x · i / 8 of a positive double x, each product and quotient rounded: they rise with i, from 0 to x. Assumes nothing.
+-- Lemmas. The places x · i / 8 of a positive double x, each product and quotient rounded: they rise with i, from 0 to x. Assumes nothing.
 use Prim.Native.Nat.{ℕ, suc, _+_, _*_, _^_, _≤_, _<_}
 use native.Mathlib.Nat.{mul-one, mul-pos, mul-comm, mul-le-mul-left, mul-le-mul-right, lt-of-le-of-lt, mul-lt-mul-of-pos-right, zero-lt-suc}
 use native.Mathlib.Omega.{arith}

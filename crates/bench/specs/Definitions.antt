@@ -1,4 +1,4 @@
--- Every definition on the way from an input's bytes to its line and its looks: what unfolds `definitions` unfolds them all.
+-- Definitions. Every definition on the way from an input's bytes to its line and its looks: what unfolds `definitions` unfolds them all.
 use lib.Ieee.{fits, round, add, sub, mul, div, lt, le, eq, ne, neg, ofBits, toBits, ofInt, toSigned, isNan}
 use Rattle.number.specs.Number.{minOf, maxOf, clampOf, absOf, signumOf, withinOf}
 use Rattle.root.specs.Root.{hypotOf}

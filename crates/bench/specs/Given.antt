@@ -1,4 +1,4 @@
--- Inputs of the program settle, from their fields (01, "Lists and the rest of the shop"), and S of 01's bench shots.
+-- Definitions. Inputs of the program settle, from their fields (01, "Lists and the rest of the shop"), and S of 01's bench shots.
 use Prim.Native.Nat.{ℕ, zero, suc, _+_, _/_, _%_}
 use Prim.Native.Char.{code}
 use Prim.Native.String.{String, len, charAt}

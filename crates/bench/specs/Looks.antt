@@ -1,4 +1,4 @@
--- Every look of two short shots, in order, in air and without: the definition's list is the one that the Rust makes through `sample`
+-- Statements. Every look of two short shots, in order, in air and without: the definition's list is the one that the Rust makes through `sample`
 -- (compare/data/looks.txt, whose inputs these are).
 use Prim.Native.Nat.{ℕ}
 use mathlib.Core.Path.{_≡_, refl}

@@ -1,5 +1,5 @@
--- Worked values of root, hypot, exp, cosine, sine and arctangent, computed from their definitions. Rust's f64::sqrt gives the same bits for root, and a Rust program of
--- 01's steps those for the others. Assumes nothing.
+-- Statements. Worked values of root, hypot, exp, cosine, sine and arctangent, computed from their definitions. Rust's f64::sqrt gives the same bits
+-- for root, and a Rust program of 01's steps those for the others. Assumes nothing.
 use mathlib.Core.Path.{_≡_, refl}
 use mathlib.Core.Bool.{true, false}
 use lib.Ieee.{nan, inf, binary64, ofBits, round, add, sub, mul, div, lt, le, ne, neg, ofInt, toSigned}

@@ -1,4 +1,4 @@
--- The starred shots of 01, "Bench shots", as one table: the lines that the program settle prints, computed from the definitions.
+-- Statements. The starred shots of 01, "Bench shots", as one table: the lines that the program settle prints, computed from the definitions.
 -- With the starred numbers, root(4) = 2 and three more (Numbers.antt), they are `bench-table`.
 use Prim.Native.Nat.{ℕ}
 use Prim.Native.String.{String}

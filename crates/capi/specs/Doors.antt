@@ -1,4 +1,4 @@
--- What each exported function gives: its answer and all that it was lent (include/dimple.h). Definitions only.
+-- Definitions. What each exported function gives: its answer and all that it was lent (include/dimple.h).
 use Prim.Native.Nat.{ℕ}
 use mathlib.Core.Bool.{_&&_, cond}
 use mathlib.Core.List.{List, [], _∷_, _++_}

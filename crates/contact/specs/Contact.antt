@@ -1,4 +1,4 @@
--- A ball on the ground: slip, rolling, gravity along the slope, rest, and whether hops die out (ground.rs).
+-- Definitions. A ball on the ground: slip, rolling, gravity along the slope, rest, and whether hops die out (ground.rs).
 -- Assumes nothing.
 use lib.Ieee.{Float, neg, le, eq, ne}
 use mathlib.Core.Bool.{Bool, true, cond, _&&_, _||_}

@@ -1,4 +1,4 @@
--- The course sheet's definitions, passed on from the crate sheet, and what `height` gives.
+-- Definitions. The course sheet's definitions, passed on from the crate sheet, and what `height` gives.
 use Prim.Native.Nat.{ℕ}
 use mathlib.Core.List.{List}
 use mathlib.Core.Bool.{cond}

@@ -1,4 +1,4 @@
--- 01, Arithmetic: exp of a double. Definitions only.
+-- Definitions. 01, Arithmetic: exp of a double.
 use Prim.Native.Nat.{ℕ, zero, suc}
 use mathlib.Core.Bool.{false, cond}
 use lib.IntN.{pos}

@@ -1,4 +1,4 @@
--- exp gives a NaN only for a NaN: for x from −700 to 700 the polynomial's value is finite. Assumes nothing.
+-- Statements. Exp gives a NaN only for a NaN: for x from −700 to 700 the polynomial's value is finite. Assumes nothing.
 use mathlib.Core.Path.{_≡_, refl, sym, ap, _∙_, subst}
 use mathlib.Core.Logic.{⊎-elim}
 use Prim.Native.Nat.{ℕ, zero, suc, _+_, _-_, _*_, _^_, _≤_, _<_}

@@ -1,5 +1,5 @@
--- The rule of the powers of two, `power-bits`: for n = i − 1010 from −1010 to 1010, the double whose exponent field is n + 1023 and whose 52 digits
--- are 0 is 2 ^ n. Assumes nothing.
+-- Statements. The rule of the powers of two, `power-bits`: for n = i − 1010 from −1010 to 1010, the double whose exponent field is n + 1023 and
+-- whose 52 digits are 0 is 2 ^ n. Assumes nothing.
 use mathlib.Core.Path.{_≡_, refl, ap, _∙_}
 use Prim.Native.Nat.{ℕ, suc, _+_, _-_, _*_, _/_, _%_, _≤_, _<_}
 use native.Mathlib.Nat.{not-le-of-lt, mod-eq-of-lt}

@@ -1,4 +1,5 @@
--- The steps to `specs/Whole.antt`: for x from −700 to 700 the sum x×1.4426950408889634 + 6755399441055744 is a double between 2 ^ 52 and 2 ^ 53, where doubles are whole numbers, within 1010 of 6755399441055744; and the difference is exact. Assumes nothing.
+-- Lemmas. The steps to `specs/Whole.antt`: for x from −700 to 700 the sum x×1.4426950408889634 + 6755399441055744 is a double between 2 ^ 52 and 2 ^
+-- 53, where doubles are whole numbers, within 1010 of 6755399441055744; and the difference is exact. Assumes nothing.
 use mathlib.Core.Path.{_≡_, refl, sym, ap, _∙_, subst}
 use mathlib.Core.Logic.{_⊎_, inl, inr, ⊎-elim}
 use Prim.Native.Nat.{ℕ, suc, _+_, _-_, _*_, _≤_, _<_}

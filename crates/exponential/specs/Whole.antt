@@ -1,4 +1,4 @@
--- For x from −700 to 700 the n of exp is a whole number from −1010 to 1010, so 2 ^ n is a double (`specs/Power.antt`). Assumes nothing.
+-- Statements. For x from −700 to 700 the n of exp is a whole number from −1010 to 1010, so 2 ^ n is a double (`specs/Power.antt`). Assumes nothing.
 use mathlib.Core.Path.{_≡_, ap}
 use mathlib.Core.Bool.{false}
 use Prim.Native.Nat.{ℕ, _-_, _<_}

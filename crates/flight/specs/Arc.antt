@@ -1,4 +1,4 @@
--- The path of a ball within one step of a hop, and the time of its fall (ground.rs).
+-- Definitions. The path of a ball within one step of a hop, and the time of its fall (ground.rs).
 -- Assumes nothing.
 use lib.Dec.{T}
 use lib.Ieee.{Float, binary64, fits, le}

@@ -1,4 +1,4 @@
--- The acceleration of a ball during a hop, and one step of its flight.
+-- Definitions. The acceleration of a ball during a hop, and one step of its flight.
 -- Assumes nothing.
 use lib.Ieee.{Float, lt}
 use mathlib.Core.Bool.{cond}

@@ -1,4 +1,4 @@
--- The settle, as 01 tells it: all that a call gives, from the sheet's bytes and the rest of its input.
+-- Definitions. The settle, as 01 tells it: all that a call gives, from the sheet's bytes and the rest of its input.
 use Prim.Native.Nat.{ℕ, _/_}
 use mathlib.Core.Bool.{Bool}
 use mathlib.Core.List.{List, []}

@@ -1,4 +1,4 @@
--- `step` and `impact`, with 01's tests and refusals.
+-- Definitions. `step` and `impact`, with 01's tests and refusals.
 use Prim.Native.Nat.{ℕ}
 use mathlib.Core.List.{List}
 use lib.Dec.{eqb}

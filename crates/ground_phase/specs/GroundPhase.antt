@@ -1,4 +1,4 @@
--- The ground phase: the second loop of ground.rs, fn settle, with the tests and the count of steps that 01 adds; and the end at t_end.
+-- Definitions. The ground phase: the second loop of ground.rs, fn settle, with the tests and the count of steps that 01 adds; and the end at t_end.
 use Prim.Native.Nat.{ℕ}
 use mathlib.Core.Bool.{cond}
 use lib.Dec.{eqb}

@@ -18,5 +18,9 @@ pub extern "C" fn guess_look(sheet: &[u8], x: f64, z: f64) -> u32 {
     }
     let mut index = [0u64; 290];
     index::make_index(sheet, &mut index);
-    if index::is_guessed(&index, x, z) { 1 } else { 0 }
+    if index::is_guessed(&index, x, z) {
+        1
+    } else {
+        0
+    }
 }

@@ -1,4 +1,4 @@
--- A hop: ground.rs, fn hop, with the tests and the count of steps that 01 adds.
+-- Definitions. A hop: ground.rs, fn hop, with the tests and the count of steps that 01 adds.
 use Prim.Native.Nat.{ℕ}
 use mathlib.Core.Bool.{false}
 use mathlib.Core.Option.{Option, none, some}

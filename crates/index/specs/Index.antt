@@ -1,4 +1,4 @@
--- The index of the patches: what inner functions promise each other, and what a look asks (`Ready`). The contracts of
+-- Contracts of inner functions. The index of the patches: what inner functions promise each other, and what a look asks (`Ready`). The contracts of
 -- `settle` and of the exported functions do not mention the index.
 --
 -- There are 16 columns along x and 16 rows along z, each between two of 17 cuts. The index is 290 words:

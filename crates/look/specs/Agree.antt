@@ -1,4 +1,4 @@
--- A run depends on a course only at the spots that it looks at, and its rectangle is the one reckoned from those spots.
+-- Statements. A run depends on a course only at the spots that it looks at, and its rectangle is the one reckoned from those spots.
 use mathlib.Core.Path.{_≡_, refl, ap}
 use mathlib.Core.List.{List, [], _∷_}
 use mathlib.Core.Bool.{Bool, true, false}

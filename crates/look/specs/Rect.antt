@@ -1,4 +1,4 @@
--- A spot's test, and the rectangle of the spots looked at (01, "Course sheet").
+-- Definitions. A spot's test, and the rectangle of the spots looked at (01, "Course sheet").
 use mathlib.Core.Bool.{Bool, true, false, _&&_, cond}
 use lib.Ieee.{Float, binary64, fits, lt}
 use Rattle.number.specs.Ops.{dec}

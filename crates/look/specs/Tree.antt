@@ -1,4 +1,5 @@
--- The look tree: a definition that may look at a course, as its looks, its steps and its answer. Definitions, and the laws that a caller's proof goes by.
+-- Definitions. The look tree: a definition that may look at a course, as its looks, its steps and its answer. Definitions, and the laws that a
+-- caller's proof goes by.
 use mathlib.Core.Path.{_≡_, refl, _∙_}
 use mathlib.Core.List.{List, [], _∷_, _++_}
 use mathlib.Core.Bool.{Bool, true, false}

@@ -1,4 +1,4 @@
--- The rectangle holds every spot looked at, and lies within every other that does; so two courses that agree within it give the same run.
+-- Statements. The rectangle holds every spot looked at, and lies within every other that does; so two courses that agree within it give the same run.
 use mathlib.Core.Path.{_≡_, refl}
 use mathlib.Core.List.{List, [], _∷_}
 use mathlib.Core.Bool.{Bool, true, false, not, _&&_, cond}

@@ -1,4 +1,4 @@
--- min, max, clamp, abs, signum and the range tests on doubles, as 01, "Arithmetic", has them. Definitions only.
+-- Definitions. Min, max, clamp, abs, signum and the range tests on doubles, as 01, "Arithmetic", has them.
 use mathlib.Core.Bool.{Bool, true, false, _&&_, cond}
 use lib.IntN.{pos}
 use lib.Ieee.{Float, nan, inf, fin, neg, lt, le, isNan}

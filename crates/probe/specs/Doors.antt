@@ -1,4 +1,4 @@
--- What a door to a function of structs does (compare/DOORS.md), said once for all of them, and the function of each.
+-- Definitions. What a door to a function of structs does (compare/DOORS.md), said once for all of them, and the function of each.
 -- Assumes nothing.
 use Prim.Native.Nat.{ℕ}
 use mathlib.Core.Bool.{cond, _&&_}

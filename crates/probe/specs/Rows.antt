@@ -1,4 +1,4 @@
--- The groups of doubles that the doors read and write (compare/DOORS.md): samples, states of a flight, motions, truth values.
+-- Definitions. The groups of doubles that the doors read and write (compare/DOORS.md): samples, states of a flight, motions, truth values.
 -- Assumes nothing.
 use Prim.Native.Nat.{ℕ, _+_}
 use mathlib.Core.Bool.{Bool, cond}

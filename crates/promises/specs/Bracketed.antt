@@ -1,8 +1,10 @@
 -- Definitions. What is said of a pass: its step has a length above 0 and at most dt, an arrival lies within it, each search of a hop makes at most 200
 -- looks, a slide reaches its threshold within it, and time is not turned back.
+use Prim.Native.Nat.{_≤_}
 use mathlib.Core.Path.{_≡_}
 use mathlib.Core.Bool.{true}
 use lib.Dec.{T}
+use lib.ListN.{length}
 use lib.Ieee.{Float, binary64, fits, le}
 use Rattle.number.specs.Ops.{_⊖_, dec}
 use Rattle.number.specs.Number.{minOf}
@@ -17,11 +19,11 @@ use Rattle.search.specs.Evaluations.{Within}
 use Rattle.search.specs.declared.Bracket.{Bracket}
 use Rattle.slide.specs.Slide.{timeAtThreshold}
 use Rattle.slide.specs.declared.Patch.{Patch}
-use Rattle.tally.specs.Language.{onward}
-use Rattle.tally.specs.Language.{inM, Pass, again, over}
+use Rattle.look.specs.Tree.{Oracle, looks as looksIn}
+use Rattle.tally.specs.Language.{Log, onward, inM, Pass, again, over}
 use Rattle.tally.specs.declared.Conditions.{Conditions}
 use Rattle.arrival.specs.Arrival.{clearanceAt, hopArrival}
-use Rattle.arrival.specs.RootSearch.{LooksAtMost, Gives}
+use Rattle.arrival.specs.RootSearch.{Gives}
 use Rattle.arrival.specs.FirstCrossing.{IfSome}
 use Rattle.arrival.specs.ArrivalTime.{ArrivesIn}
 use Rattle.hop.specs.Hop.{stepArc, hopStep}
@@ -63,7 +65,8 @@ module _ (c : Conditions) where
         → Gives (IfSome (ArrivesIn (f .state .time) (stepArc c aero (f .state) .h)))
         (hopArrival (stepArc c aero (f .state)) (f .state .time) end (f .state .spin))
     -- 01: "at most 200 evaluations", each one look
-    pub looks : (b : Bracket) (guess : Float) → LooksAtMost 200 (findRoot inM (clearanceAt (stepArc c aero (f .state))) b guess)
+    pub looks : (b : Bracket) (guess : Float) (o : Oracle) (l : Log)
+        → length (looksIn o (findRoot inM (clearanceAt (stepArc c aero (f .state))) b guess l)) ≤ 200
     -- the pass leads to no earlier time
     pub onward : Gives (HopLeads (Later (f .state .time))) (hopStep c aero f)
 

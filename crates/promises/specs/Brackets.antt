@@ -49,4 +49,4 @@ module _ (shot : Shot) where
       let a = settle-passes sheet shot (length cs) (length ps) h .physics in
       let b = settle-passes sheet shot (length cs) (length ps) h .landing in
       each-train (conditionsOf shot) (accepted-paced shot a b f) (courseOf sheet) (shot .physics .«max_impacts» - 1) (shot .landing)
-      (record { ok = is-true (stateOk landing) (landing-passes landing (holds b)); double = g }) (firstLog landing (length cs) (length ps))
+      (record { ok = is-true (stateOk (shot .landing)) (landing-passes (shot .landing) (holds b)); double = g }) (firstLog (shot .landing) (length cs) (length ps))

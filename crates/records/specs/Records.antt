@@ -1,4 +1,4 @@
--- A list of records, and the lent list of doubles that holds it: 01, "Lists": the pushed records in order, then +0.
+-- Definitions. A list of records, and the lent list of doubles that holds it: 01, "Lists": the pushed records in order, then +0.
 use Prim.Native.Nat.{ℕ, zero, suc, _+_, _-_, _*_, _/_, _≤_}
 use mathlib.Core.Path.{_≡_}
 use mathlib.Core.Bool.{Bool, true, false}

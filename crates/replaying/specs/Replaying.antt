@@ -1,5 +1,4 @@
--- A replay of one entry of the fixed list of the reference's answers (compare/README.md, "The fixed list"): 24 words of 8 bytes, then an input.
--- Definitions only.
+-- Definitions. A replay of one entry of the fixed list of the reference's answers (compare/README.md, "The fixed list"): 24 words of 8 bytes, then an input.
 use Prim.Native.Nat.{ℕ, _+_, _-_, _%_, _^_}
 use mathlib.Core.Bool.{Bool, true, not, _&&_, cond}
 use mathlib.Core.List.{List, [], _∷_, _++_, map}

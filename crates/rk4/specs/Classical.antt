@@ -1,4 +1,4 @@
--- The classical fourth-order Runge-Kutta method, and that both steppers are it at exact arithmetic.
+-- Statements. The classical fourth-order Runge-Kutta method, and that both steppers are it at exact arithmetic.
 -- Assumes nothing.
 use mathlib.Core.Path.{_≡_, refl}
 use lib.Ieee.{Float}

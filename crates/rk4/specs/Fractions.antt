@@ -1,4 +1,4 @@
--- Exact fractions are an instance of exact arithmetic, and vectors of three of them a space over it.
+-- Statements. Exact fractions are an instance of exact arithmetic, and vectors of three of them a space over it.
 -- Assumes nothing.
 use mathlib.Core.Path.{_≡_, refl, ap}
 use Prim.Native.Nat.{ℕ, zero, suc, _+_, _*_, _-_, _<_}

@@ -1,4 +1,4 @@
--- One step of the classical fourth-order Runge-Kutta method, as rk4.rs computes it: `step` sums the stages and then scales,
+-- Definitions. One step of the classical fourth-order Runge-Kutta method, as rk4.rs computes it: `step` sums the stages and then scales,
 -- `step_state` adds the scaled stages one by one. Both are written once, over a record of operations.
 -- Assumes nothing.
 use lib.Ieee.{Float}

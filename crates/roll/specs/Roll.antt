@@ -1,4 +1,4 @@
--- One pass of the ground: the body of the second loop of ground.rs, fn settle, with the tests and the count of steps that 01 adds.
+-- Definitions. One pass of the ground: the body of the second loop of ground.rs, fn settle, with the tests and the count of steps that 01 adds.
 use Prim.Native.Nat.{ℕ}
 use mathlib.Core.Bool.{Bool, true, false, _&&_, cond, not}
 use lib.Dec.{eqb}

@@ -1,4 +1,4 @@
--- One ground step: ground.rs, fn contact_step. Assumes nothing.
+-- Definitions. One ground step: ground.rs, fn contact_step. Assumes nothing.
 use lib.Ieee.{Float, neg, lt, le, eq}
 use mathlib.Core.Bool.{Bool, true, cond, _&&_}
 use Rattle.number.specs.Ops.{_⊕_, _⊖_, _⊗_, _⊘_, dec}

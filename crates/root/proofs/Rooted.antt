@@ -104,7 +104,8 @@ bits-of-root b w m r p q a d n =
     let small : v < 9218868437227405312 = omega arith in
     let f : v / 4503599627370496 - 1 ≡ k = omega arith in
     let z : 4503599627370496 + v % 4503599627370496 ≡ r = omega arith in
-    let u : unitsOf b * 2 ^ 1074 ≡ m * 4503599627370496 * (2 ^ k * 2 ^ k) = square t g (unitsOf b) (omega arith) (a .same) ∙ ap (λ (x : ℕ). x * 4503599627370496 * (2 ^ k * 2 ^ k)) (sym (d .is)) in
+    let u : unitsOf b * 2 ^ 1074 ≡ m * 4503599627370496 * (2 ^ k * 2 ^ k) = square t g (unitsOf b) (omega arith) (a .same)
+    ∙ ap (λ (x : ℕ). x * 4503599627370496 * (2 ^ k * 2 ^ k)) (sym (d .is)) in
     record {
       finite = small;
       is = normal v (omega arith) small

@@ -1,4 +1,4 @@
--- The steps to `specs/Nearest.antt`, in whole numbers of units of 2 ^ -1074. Assumes nothing.
+-- Lemmas. The steps to `specs/Nearest.antt`, in whole numbers of units of 2 ^ -1074. Assumes nothing.
 use mathlib.Core.Path.{_≡_, refl, sym, ap, _∙_, subst}
 use mathlib.Core.Logic.{_⊎_, inl, inr}
 use Prim.Native.Nat.{ℕ, zero, suc, _+_, _-_, _*_, _/_, _%_, _^_, _≤_, _<_}

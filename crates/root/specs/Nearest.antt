@@ -1,4 +1,5 @@
--- 01: the root is the double nearest the true root. `root-nearest` says so for every finite double above 0, against every other double, with whole-number squares; no tie occurs, so `ties to even` never decides.
+-- Statements. 01: the root is the double nearest the true root. `root-nearest` says so for every finite double above 0, against every other double,
+-- with whole-number squares; no tie occurs, so `ties to even` never decides.
 -- `only-root` says that no other double has the property, and `root-fits` that the root is a double. Assumes nothing.
 use mathlib.Core.Path.{_≡_, refl, sym, ap, _∙_, subst}
 use Prim.Native.Nat.{ℕ, zero, suc, _+_, _-_, _*_, _/_, _^_, _≤_, _<_}

@@ -1,4 +1,4 @@
--- 01, Arithmetic: the square root of a double and hypot. `specs/Nearest.antt` proves that the root is the double nearest the true root. Definitions only.
+-- Definitions. 01, Arithmetic: the square root of a double and hypot. `specs/Nearest.antt` proves that the root is the double nearest the true root.
 use Prim.Native.Nat.{ℕ, zero, suc, _+_, _-_, _*_, _/_, _^_}
 use mathlib.Core.Bool.{true, false, cond}
 use lib.Dec.{leb}

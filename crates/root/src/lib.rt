@@ -131,7 +131,11 @@ fn radicand(w: u64) -> u64
     ensures { λ m. ⌜ Radicand w m ⌝ }
 {
     let t = w % 4503599627370496 + 4503599627370496;
-    if w / 4503599627370496 % 2 == 1 { t * 2 } else { t }
+    if w / 4503599627370496 % 2 == 1 {
+        t * 2
+    } else {
+        t
+    }
 }
 
 // True only if w are the bits of the root of the normal double with the bits b.
@@ -143,10 +147,7 @@ fn sure(b: u64, w: u64) -> bool
     if w / 4503599627370496 != v / 9007199254740992 {
         return false;
     }
-    is_near(
-        radicand(v),
-        w % 4503599627370496 + 4503599627370496,
-    )
+    is_near(radicand(v), w % 4503599627370496 + 4503599627370496)
 }
 
 // The whole number nearest the root of m * 2^52. p are the bits of m / 2^52.

@@ -1,4 +1,4 @@
--- What holds of the search whatever is evaluated: at most 200 evaluations, and the answer within the bracket. Assumes nothing.
+-- Statements. What holds of the search whatever is evaluated: at most 200 evaluations, and the answer within the bracket. Assumes nothing.
 use Prim.Native.Nat.{ℕ, zero, suc, _≤_}
 use native.Mathlib.Omega.{arith}
 use mathlib.Core.Path.{_≡_, refl}

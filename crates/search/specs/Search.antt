@@ -1,4 +1,4 @@
--- The bounded search for a root: ground.rs, fn find_root, over any way to evaluate.
+-- Definitions. The bounded search for a root: ground.rs, fn find_root, over any way to evaluate.
 use Prim.Native.Nat.{ℕ, zero, suc, _-_, _<_, _≤_}
 use native.Mathlib.Nat.{not-suc-le-zero}
 use native.Mathlib.Numerals.{sub-one}

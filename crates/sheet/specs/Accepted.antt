@@ -1,4 +1,4 @@
--- What is known of a sheet that passes the tests 1 to 3.
+-- Lemmas. What is known of a sheet that passes the tests 1 to 3.
 use Prim.Native.Nat.{ℕ, zero, suc, _+_, _-_, _*_, _≤_, _<_}
 use native.Mathlib.Nat.{add-zero, not-suc-le-zero, le-of-suc-le-suc}
 use native.Mathlib.Numerals.{add-one}

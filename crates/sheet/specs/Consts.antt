@@ -1,4 +1,4 @@
--- The constants of the tests: each bit pattern is the decimal, correctly rounded.
+-- Lemmas. The constants of the tests: each bit pattern is the decimal, correctly rounded.
 use lib.Ieee.{binary64, ofBits, round}
 use mathlib.Core.Path.{_≡_, refl}
 use Rattle.number.specs.Ops.{dec}

@@ -1,4 +1,4 @@
--- A scan upwards, one number at a time: `all` and `first`.
+-- Lemmas. A scan upwards, one number at a time: `all` and `first`.
 use Prim.Native.Nat.{ℕ, zero, suc, _+_, _-_, _≤_, _<_}
 use native.Mathlib.Nat.{le-refl}
 use native.Mathlib.Numerals.{add-one}

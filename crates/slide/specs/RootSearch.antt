@@ -1,4 +1,4 @@
--- The search in a slide gives a time within the step. Assumes nothing.
+-- Statements. The search in a slide gives a time within the step. Assumes nothing.
 use lib.Dec.{T}
 use lib.Ieee.{Float, binary64, fits, round, lt, le}
 use lib.Ieee.Fits.{cond-fits, div-fits, round-fits}

@@ -1,4 +1,4 @@
--- Definitions: test 22 (01, "Ground", Added), of a number, of a vector and of a state.
+-- Definitions. Test 22 (01, "Ground", Added), of a number, of a vector and of a state.
 use mathlib.Core.Bool.{Bool, _&&_}
 use lib.Ieee.{Float}
 use Rattle.number.specs.Ops.{dec}

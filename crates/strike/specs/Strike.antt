@@ -1,4 +1,5 @@
--- One impact of the train of ground.rs, fn settle, with the tests that 01 adds: the strike, the rebound that is flown or not, the drop to the ground.
+-- Definitions. One impact of the train of ground.rs, fn settle, with the tests that 01 adds: the strike, the rebound that is flown or not, the drop
+-- to the ground.
 use mathlib.Core.Bool.{Bool, _&&_, cond, not}
 use lib.Ieee.{le, lt}
 use Rattle.number.specs.Ops.{_⊗_, dec}

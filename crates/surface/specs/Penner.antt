@@ -1,4 +1,4 @@
--- Penner's (2002) eq. 5 for the restitution of ball and turf, written once over a record of operations, with its instance at
+-- Statements. Penner's (2002) eq. 5 for the restitution of ball and turf, written once over a record of operations, with its instance at
 -- doubles, which `Restitution::coefficient_at` computes, and the one at exact arithmetic, which is the polynomial.
 -- Assumes nothing.
 use mathlib.Core.Path.{_≡_, ap}

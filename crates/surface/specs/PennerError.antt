@@ -1,4 +1,4 @@
--- Penner's quadratic as doubles compute it is within 1 / 10 ^ 13 of the exact polynomial, for every speed from 0 to 20 m/s.
+-- Statements. Penner's quadratic as doubles compute it is within 1 / 10 ^ 13 of the exact polynomial, for every speed from 0 to 20 m/s.
 -- Assumes nothing.
 use mathlib.Core.Path.{_≡_, refl, sym, ap, _∙_, subst}
 use mathlib.Core.Bool.{Bool, true, false, true≢false}

@@ -1,4 +1,4 @@
--- How far a rounded fraction, product or sum of doubles can be from the exact one, in whole numbers.
+-- Lemmas. How far a rounded fraction, product or sum of doubles can be from the exact one, in whole numbers.
 -- Assumes nothing.
 use mathlib.Core.Path.{_≡_, refl, sym, ap, _∙_, subst}
 use mathlib.Core.Bool.{Bool, true, false, not, cond, true≢false}

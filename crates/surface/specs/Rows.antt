@@ -1,4 +1,4 @@
--- Rows of Penner's restitution about the end of its quadratic at 20 m/s (document 01, bench shots).
+-- Statements. Rows of Penner's restitution about the end of its quadratic at 20 m/s (document 01, bench shots).
 -- Assumes nothing.
 use mathlib.Core.Path.{_≡_, refl}
 use mathlib.Core.Bool.{false}

@@ -1,4 +1,4 @@
--- The language in which a settle is defined: looks, tests, pushes and counted steps, over a log, with an exit by a number.
+-- Definitions. The language in which a settle is defined: looks, tests, pushes and counted steps, over a log, with an exit by a number.
 use Prim.Native.Nat.{ℕ, zero, suc, _+_, _-_}
 use mathlib.Core.Bool.{Bool, true, false}
 use mathlib.Core.List.{List, [], _∷_}
@@ -17,7 +17,6 @@ use Rattle.look.specs.declared.Look.{Look}
 use Rattle.look.specs.declared.Look.the-variants.{Off, Saw}
 use Rattle.records.specs.Records.{Records, Put, full, put, pushed}
 use Rattle.tally.specs.declared.Conditions.{Conditions}
-
 pub use Rattle.number.specs.Ops.{if_then_else_}
 
 -- ---- the log

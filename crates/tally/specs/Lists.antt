@@ -1,4 +1,4 @@
--- Lemmas: what the pushes keep of a list.
+-- Lemmas. What the pushes keep of a list.
 use Prim.Native.Nat.{ℕ, _+_, _*_, _/_, _≤_}
 use native.Mathlib.Nat.{le-refl, le-trans}
 use native.Mathlib.Omega.{arith}

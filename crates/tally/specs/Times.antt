@@ -1,4 +1,4 @@
--- The tests of time, and when the next sample point is due.
+-- Definitions. The tests of time, and when the next sample point is due.
 use mathlib.Core.Bool.{Bool, cond}
 use lib.Ieee.{Float, le}
 use Rattle.number.specs.Ops.{_⊕_, _⊖_, dec}

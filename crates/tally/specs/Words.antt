@@ -1,4 +1,4 @@
--- How the parts of a settle run one after another: the laws that the proofs of the code are made of.
+-- Lemmas. How the parts of a settle run one after another: the laws that the proofs of the code are made of.
 use Prim.Native.Nat.{ℕ, zero, suc, _-_}
 use native.Mathlib.Omega.{arith}
 use mathlib.Core.Path.{_≡_, refl, ap, _∙_, sym}

@@ -1,4 +1,4 @@
--- The train of impacts, and then the ground: ground.rs, fn settle, with the tests and the count of steps that 01 adds.
+-- Definitions. The train of impacts, and then the ground: ground.rs, fn settle, with the tests and the count of steps that 01 adds.
 use Prim.Native.Nat.{ℕ, zero, suc, _-_}
 use mathlib.Core.Bool.{not}
 use Rattle.state.specs.declared.BallState.{BallState}

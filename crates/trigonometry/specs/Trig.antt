@@ -1,4 +1,4 @@
--- 01, Arithmetic: cosine, sine and arctangent. Definitions only.
+-- Definitions. 01, Arithmetic: cosine, sine and arctangent.
 use Prim.Native.Nat.{ℕ, zero, suc, _+_, _-_, _*_}
 use mathlib.Core.Bool.{cond}
 use lib.IntN.{pos}

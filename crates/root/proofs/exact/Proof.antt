@@ -44,7 +44,9 @@ returns-5 : tie.Need-returns-5
 returns-5 c = at-minus-zero _ (held (c .before .before .before .before .before)) (c .if5 .taken)
 
 returns-6 : tie.Need-returns-6
-returns-6 c = at-minus _ (held (c .before .before .before .before .before)) (not-nan _ (c .before .before .before .before .if1 .left)) (c .before .before .if3 .left) (c .before .if4 .left) (c .if5 .left)
+returns-6 c =
+    let a = c .before .before .before .before in
+    at-minus _ (held (a .before)) (not-nan _ (a .if1 .left)) (c .before .before .if3 .left) (c .before .if4 .left) (c .if5 .left)
 
 pub exact-spec : {M : Type 1} → statement M
 exact-spec =
