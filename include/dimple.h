@@ -30,6 +30,18 @@ uint32_t dimple_settle(const uint8_t *input, size_t input_len, double *contacts,
 uint32_t dimple_card(const uint8_t *input, size_t input_len, double *contacts, size_t contacts_len,
                      double *points, size_t points_len, double *result, size_t result_len, uint8_t *page, size_t page_len);
 
+/* Where a ball must land so that it comes to rest near a spot. The landing of the input is tried with the velocities (i, -j, +0), i from 1 to
+ * forward and, for each i, j from 1 to downward, in whole metres a second; all else stays as given. The first try counts whose settle has answer 0,
+ * ends at rest and lies within the distance of the spot: dx * dx + dz * dz <= distance * distance in doubles. landing (10) gets that landing (time,
+ * pos, vel, spin); result, contacts and points are those of its own settle, as dimple_settle gives them. Where none fits, the answer is 0 and the
+ * landing, the result (as far as it is written) and both lists are all +0.
+ * 100: landing is not 10 doubles, and nothing is touched. Then 12, 8, 1 to 7 as in dimple_settle (7 for the landing as it is given), then 35: forward or
+ * downward is 0 or above 32, the distance is not from 0 to 10, or spot_x or spot_z is beyond 100,000. On these the lists are untouched, the landing
+ * is ten +0 and the result the number and +0. A grid is at most 1024 settles: a large one takes seconds. */
+uint32_t dimple_aim(const uint8_t *input, size_t input_len, double *contacts, size_t contacts_len, double *points, size_t points_len,
+                    double spot_x, double spot_z, double distance, uint64_t forward, uint64_t downward,
+                    double *result, size_t result_len, double *landing, size_t landing_len);
+
 /* One ground step. physics: dt, stop_speed, roll_threshold (3). ball: 12. state: time, pos, vel, spin, phase (11).
  * The state is changed on answer 0 alone; the phase is written always, 0 on a number. 100: a length is not the one named, nothing is touched. */
 uint32_t dimple_step(const uint8_t *sheet, size_t sheet_len, const double *physics, size_t physics_len,

@@ -10,9 +10,13 @@ as `Stopped`, with what it had got to in its `run`. What cannot be handed to the
 too): an unknown kind or law, a surface number, max_impacts, step_limit or shot number that is no whole number in the range of its type, a
 field that is no number, and a run to enter whose answer is not 0.
 """
+import contextlib
 import ctypes
 import os
 import struct
+import sys
+import threading
+import time
 from collections import namedtuple
 
 HERE = os.path.dirname(os.path.abspath(__file__))
@@ -43,6 +47,7 @@ WORDS = {
     32: "a name is 1 to 12 letters from A to Z",
     33: "the shelf holds 16 names",
     34: "there is no such name on the shelf",
+    35: "a side of the grid is not from 1 to 32, the distance not from 0 to 10 m, or the spot beyond 100,000 m",
     100: "a buffer has the wrong length",
     101: "the buffer holds no board, or no shelf",
     102: "the termination is none of rest, time and impacts",
@@ -124,6 +129,8 @@ def _library():
     doubles, size = ctypes.POINTER(ctypes.c_double), ctypes.c_size_t
     lib.dimple_settle.argtypes = [ctypes.c_char_p, size, doubles, size, doubles, size, doubles, size]
     lib.dimple_card.argtypes = lib.dimple_settle.argtypes + [ctypes.c_char_p, size]
+    lib.dimple_aim.argtypes = [ctypes.c_char_p, size, doubles, size, doubles, size, ctypes.c_double, ctypes.c_double, ctypes.c_double,
+                               ctypes.c_uint64, ctypes.c_uint64, doubles, size, doubles, size]
     lib.dimple_step.argtypes = [ctypes.c_char_p, size, doubles, size, doubles, size, doubles, size]
     lib.dimple_impact.argtypes = [ctypes.c_char_p, size, doubles, size, doubles, size]
     lib.dimple_height.argtypes = [ctypes.c_char_p, size, ctypes.c_double, ctypes.c_double, doubles, size]
@@ -134,7 +141,7 @@ def _library():
     lib.dimple_shelf_save.argtypes = [doubles, size, ctypes.c_char_p, size, doubles, size]
     lib.dimple_shelf_return.argtypes = [doubles, size, ctypes.c_char_p, size, doubles, size]
     lib.dimple_shelf_drop.argtypes = [doubles, size, ctypes.c_char_p, size]
-    for door in ("settle", "card", "step", "impact", "height", "board_new", "board_enter", "board_place", "shelf_new", "shelf_save", "shelf_return", "shelf_drop"):
+    for door in ("settle", "card", "aim", "step", "impact", "height", "board_new", "board_enter", "board_place", "shelf_new", "shelf_save", "shelf_return", "shelf_drop"):
         getattr(lib, f"dimple_{door}").restype = ctypes.c_uint32
     return lib
 
@@ -196,6 +203,42 @@ def card(course, landing, physics=Physics(), ball=TOUR, air_density=1.225, step_
     answer = _call("dimple_card", data, len(data), lc, len(lc), lp, len(lp), result, len(result), page, len(page))
     run = _run(answer, lc, lp, result)
     return page.raw[:60 * (1 + len(run.contacts))].decode("ascii")
+
+
+def aim(course, spot, distance, landing=Landing(), forward=32, downward=32, physics=Physics(), ball=TOUR, air_density=1.225,
+        step_limit=1_000_000, contacts=256, points=16384, progress=False):
+    """The first landing, by forward and then by downward speed in whole metres a second from 1 on, whose run ends at rest within the distance of the
+    spot (x, z), as a pair of that `Landing` and its `Run`; None if no landing of the grid does. All but the velocity is as in `landing`. A large grid
+    takes seconds: with progress=True a line on standard error says how long it has been at it."""
+    data = settle_input(course, landing, physics, ball, air_density, step_limit)
+    sides = _whole(forward, 64, "forward"), _whole(downward, 64, "downward")
+    lc, lp, result, found = _doubles(20 * contacts), _doubles(11 * points), _doubles(19), _doubles(10)
+    with _progress(f"aiming, at most {forward * downward} landings") if progress else contextlib.nullcontext():
+        answer = _call("dimple_aim", data, len(data), lc, len(lc), lp, len(lp), *_doubles(3, *spot, distance), *sides, result, len(result), found, 10)
+    if answer:
+        raise Refused(answer)
+    if not any(found[4:7]):
+        return None
+    return Landing(*_state(found[:10])), _run(answer, lc, lp, result)
+
+
+@contextlib.contextmanager
+def _progress(what):
+    """While the call runs, a line with the seconds so far, on standard error."""
+    done, start = threading.Event(), time.monotonic()
+
+    def tell():
+        while not done.wait(0.5):
+            print(f"\r{what}: {time.monotonic() - start:.0f} s", end="", file=sys.stderr, flush=True)
+        print(f"\r{what}: {time.monotonic() - start:.1f} s", file=sys.stderr, flush=True)
+
+    teller = threading.Thread(target=tell, daemon=True)
+    teller.start()
+    try:
+        yield
+    finally:
+        done.set()
+        teller.join()
 
 
 def _state(d):

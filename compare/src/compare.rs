@@ -1,5 +1,6 @@
 //! Holds libcapi and libprobe against the reference, bit for bit. See README.md.
 
+mod aim;
 mod board;
 mod card;
 mod faults;
@@ -469,6 +470,7 @@ fn main() {
         Some("card") => card::run(seed, value("--cards", 100_000), n),
         Some("doors") => doors_mode(seed, value("--cases", 200_000), n),
         Some("board") => board::run(seed, value("--calls", 500_000), n),
+        Some("aim") => aim::run(seed, value("--cases", 20_000), value("--grids", 20), n),
         Some("leaves") => leaves::run(seed, value("--share", 100), n, args.get(1).map_or("", |a| a.as_str())),
         Some("shelf") => shelf::run(seed, value("--calls", 200_000), n),
         Some("replay") => replay_mode(args.get(1).map_or("../crates/replay/data/replay.bin", |a| a.as_str())),
@@ -477,7 +479,7 @@ fn main() {
         Some("unpatched") => unpatched::run(seed, value("--shots", 100_000), n),
         _ => {
             println!(
-                "compare settle [--shots N] | doors [--cases N] | board [--calls N] | card [--cards N] | leaves [NAME] [--share PERCENT] | shelf [--calls N] | replay [FILE] | speed | faults | unpatched [--shots N]"
+                "compare settle [--shots N] | doors [--cases N] | aim [--cases N] [--grids N] | board [--calls N] | card [--cards N] | leaves [NAME] [--share PERCENT] | shelf [--calls N] | replay [FILE] | speed | faults | unpatched [--shots N]"
             );
             println!("        [--seed N] [--threads N] [--first]");
             std::process::exit(2);

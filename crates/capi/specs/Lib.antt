@@ -1,5 +1,6 @@
 pub mod Doors
 pub mod Cards
+pub mod Aims
 pub mod Boards
 pub mod Entered
 pub mod Chain

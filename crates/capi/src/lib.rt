@@ -3,10 +3,12 @@
 ghost use mathlib.Core.Path.{_≡_};
 ghost use lib.ListN.{length};
 ghost use Rattle.capi.specs.Doors.{reported, stepped, struck, door, settleDoor, settleDoorOf, stepDoorOf, impactDoorOf, heightDoorOf};
+ghost use Rattle.capi.specs.Aims.{aimDoor, aimDoorOf};
 ghost use Rattle.capi.specs.Cards.{cardDoor, cardDoorOf};
 ghost use Rattle.layout.specs.Layout.{boardLength, boardAt};
 ghost use Rattle.capi.specs.Boards.{entered, sentOf, newDoorOf, enterDoorOf, placeDoorOf};
 ghost use Rattle.shelf_layout.specs.Doors.{answered, shelfNewDoorOf, shelfSaveDoorOf, shelfReturnDoorOf, shelfDropDoorOf};
+use aim::Target;
 use board::Board;
 use board::Entered;
 use board::Entry;
@@ -76,6 +78,34 @@ pub extern "C" fn dimple_card(
     ensures { λ r. ⌜ cardDoor r (now (contacts .exit)) (now (points .exit)) (now (result .exit)) (now (page .exit)) ≡ cardDoorOf (now (input .entry)) (now (contacts .entry)) (now (points .entry)) (now (result .entry)) (now (page .entry)) ⌝ }
 {
     let s = card::card(input, contacts, points, page);
+    write_result(result, s);
+    s.answer
+}
+
+#[no_mangle]
+pub extern "C" fn dimple_aim(
+    input: &[u8],
+    contacts: &mut [f64],
+    points: &mut [f64],
+    spot_x: f64,
+    spot_z: f64,
+    distance: f64,
+    forward: u64,
+    downward: u64,
+    result: &mut [f64],
+    landing: &mut [f64],
+) -> u32
+    ensures { λ r. ⌜ aimDoor r (now (contacts .exit)) (now (points .exit)) (now (result .exit)) (now (landing .exit)) ≡ aimDoorOf (now (input .entry)) (now (contacts .entry)) (now (points .entry)) «spot_x» «spot_z» distance forward downward (now (result .entry)) (now (landing .entry)) ⌝ }
+{
+    if landing.len() != 10 {
+        return 100;
+    }
+    let target = Target {
+        x: spot_x,
+        z: spot_z,
+        distance,
+    };
+    let s = aim_door::aim_into(input, target, forward, downward, contacts, points, landing);
     write_result(result, s);
     s.answer
 }

@@ -6,9 +6,9 @@ ghost use Rattle.ground.specs.Settle.{result};
 ghost use Rattle.input.specs.Input.{wholeAt, realAt, vecAt, physicsAt, ballAt, landingAt, shotAt, settleInputOf};
 use aero::BallModel;
 use ground::Settled;
-use state::BallState;
 use shot::GroundPhysics;
 use shot::Shot;
+use state::BallState;
 use vector::DVec3;
 
 // Field i, as a u64.
@@ -88,7 +88,8 @@ fn landing_at(s: &[u8]) -> BallState
     }
 }
 
-fn shot_at(s: &[u8]) -> Shot
+// All fields.
+pub fn shot_at(s: &[u8]) -> Shot
     requires { ⌜ 240 ≤ length (now s) ⌝ }
     ensures { λ r. ⌜ r ≡ shotAt (now (s .entry)) ⌝ }
 {

@@ -1,0 +1,4 @@
+pub mod Aim
+pub mod Contracts
+pub mod Passed
+pub mod First
