@@ -36,7 +36,7 @@ use Rattle.look.specs.declared.Look.{Look}
 use Rattle.look.specs.declared.Look.the-variants.{Saw}
 use Rattle.tally.specs.Language.{M, _>>=_, _>>_, pure, look, test}
 use Rattle.tally.specs.Words.{look-saw}
-use Rattle.roll.specs.Roll.{lastOf}
+use Rattle.roll.specs.Roll.{wholePhase}
 use Rattle.ground.specs.Step.{stepOut, stepBy, stepRun, stepMade, impactBy, impactRun, impactMade}
 use Rattle.ground.specs.Settle.{firstLog}
 use Rattle.ground.specs.declared.StepOut.{StepOut}
@@ -86,7 +86,7 @@ abbrev pub stepRest : BallModel → GroundSample → Stepped → M StepOut
 stepRest ball at m = do
   under ← look m.state.pos.x m.state.pos.z
   b ← test (ontoOf m.state under at.normal m.rolling (radiusOf ball))
-  pure (stepOut 0 b (lastOf m.phase))
+  pure (stepOut 0 b (wholePhase m.phase))
 
 pub step-hit : (o : Oracle) (dt stop roll : Float) (ball : BallModel) (state : BallState) (l : Log) (q : Rect) {w : Look} {q1 : Rect} {at : GroundSample} {m : Stepped} {d : Did (Ran StepOut)}
     → did w q1 ≡ exec o q (lookTree (state .pos .x) (state .pos .z)) → w ≡ Saw at → m ≡ contactStepOf state at ball dt stop roll

@@ -13,7 +13,7 @@ use Rattle.look.specs.Rect.{noRect}
 use Rattle.look.specs.Tree.{exec}
 use Rattle.course.specs.Sheet.{courseOf}
 use Rattle.tally.specs.Language.{M, Outcome, goes, stops, _>>=_, _>>_, pure, if_then_else_, look, test}
-use Rattle.roll.specs.Roll.{lastOf}
+use Rattle.roll.specs.Roll.{wholePhase}
 use Rattle.ground.specs.Tests.{stepTest, impactTest}
 use Rattle.ground.specs.Settle.{firstLog}
 use Rattle.ground.specs.declared.StepOut.{StepOut}
@@ -29,7 +29,7 @@ stepRun dt stop threshold ball state = do
   let moved = contactStepOf state s ball dt stop threshold
   under ← look moved.state.pos.x moved.state.pos.z
   b ← test (ontoOf moved.state under s.normal moved.rolling (radiusOf ball))
-  pure (stepOut 0 b (lastOf moved.phase))
+  pure (stepOut 0 b (wholePhase moved.phase))
 
 -- "On a refusal `step` and `impact` return the given state (`step` with phase 0)"
 abbrev pub stepBy : BallState → Outcome StepOut → StepOut

@@ -238,7 +238,7 @@ fn step_made(
     StepOut {
         answer: 0,
         state: b,
-        phase: roll::last_of(phase),
+        phase: roll::whole_phase(phase),
     }
 }
 

@@ -12,7 +12,7 @@ use Rattle.tally.specs.declared.Conditions.{Conditions}
 use Rattle.tally.specs.declared.Tally.{Tally}
 use Rattle.tally.proofs.Reached.{on, last}
 use Rattle.tally.proofs.Loop.{due-stops}
-use Rattle.roll.specs.Roll.{roll as rollFrom}
+use Rattle.roll.specs.Roll.{rollFrom}
 use Rattle.roll.specs.declared.Roll.{Roll}
 use Rattle.roll.specs.declared.Ending.{Ending}
 use Rattle.ground_phase.specs.GroundPhase.{groundFrom, groundOn, ground}
@@ -22,7 +22,7 @@ use Rattle.ground_phase.specs.declared.GroundOut.{GroundOut}
 use Rattle.ground_phase.specs.declared.GroundOut.the-variants.{Ran, Due}
 
 module _ {o : Oracle} {m : M Ending} {a : Place} {n : ℕ} {t : Tally} {lc lp : List Float} (c : Conditions) (state : BallState) (s : GroundSample) {g : Roll}
-    (r : Reached o m a n (ground c state s) (place t lc lp)) (e : g ≡ rollFrom state s (state .time) 0) where
+    (r : Reached o m a n (ground c state s) (place t lc lp)) (e : g ≡ rollFrom state s) where
   from : Reached o m a n (groundOn c g) (place t lc lp)
   unfolding ground
   from = rw e r

@@ -2,10 +2,11 @@
 ghost use mathlib.Core.Path.{_≡_};
 ghost use Rattle.course.specs.Sheet.{courseOf};
 ghost use Rattle.course.specs.Index.{Ready};
-ghost use Rattle.roll.specs.Roll.{roll as rollFrom};
+ghost use Rattle.roll.specs.Roll.{lastOf, rollFrom};
 ghost use Rattle.ground_phase.specs.GroundPhase.{lastPhase};
 ghost use Rattle.ground_phase.specs.Contracts.{TimesUp, Grounds};
 use roll::Ending;
+use roll::LastPhase;
 use roll::Roll;
 use roll::RollPass;
 use state::BallState;
@@ -29,10 +30,13 @@ pub enum GroundOut {
 }
 
 // The phase at t_end: the last step's, or a roll before the first.
-fn last_phase(last: u8) -> Phase
-    ensures { λ r. ⌜ r ≡ lastPhase last ⌝ }
+fn last_phase(last: LastPhase) -> Phase
+    ensures { λ r. ⌜ r ≡ lastPhase (lastOf last) ⌝ }
 {
-    if last == 1 { Phase::Slide } else { Phase::Roll }
+    match last {
+        LastPhase::None => Phase::Roll,
+        LastPhase::Some(phase) => phase,
+    }
 }
 
 // t_end: the point of the state, which ends the run.
@@ -51,13 +55,13 @@ pub fn time_up(points: &mut [f64], t: Tally, s: BallState, phase: Phase) -> RunO
 
 // The first pass: the ball on the sample under it.
 pub fn roll_of(s: BallState, at: GroundSample) -> Roll
-    ensures { λ r. ⌜ r ≡ rollFrom s at (s .time) 0 ⌝ }
+    ensures { λ r. ⌜ r ≡ rollFrom s at ⌝ }
 {
     Roll {
         state: s,
         at,
         next_sample: s.time,
-        last: 0,
+        last: LastPhase::None,
     }
 }
 
@@ -78,7 +82,8 @@ pub fn ground(
     loop {
         let s = g.state;
         if tally::is_late(s.time, c.t_end) {
-            return GroundOut::Ran(time_up(points, t, s, last_phase(g.last)));
+            let last = g.last;
+            return GroundOut::Ran(time_up(points, t, s, last_phase(last)));
         }
         if t.steps >= c.step_limit {
             return GroundOut::Due(g, t);

@@ -36,7 +36,7 @@ use Rattle.hop.specs.Hop.{flight, hopNext, hopStep, hopFrom, hop}
 use Rattle.hop.specs.declared.Flight.{Flight}
 use Rattle.hop.specs.declared.Way.{Way}
 use Rattle.hop.specs.declared.Way.the-variants.{Arrived, Late}
-use Rattle.roll.specs.Roll.{roll, stepOn, heldOf, groundStep}
+use Rattle.roll.specs.Roll.{rollFrom, lastOf, stepOn, heldOf, groundStep}
 use Rattle.roll.specs.declared.Roll.{Roll}
 use Rattle.roll.specs.declared.Ending.{Ending}
 use Rattle.ground_phase.specs.GroundPhase.{lastPhase, timeUp, groundFrom, ground}
@@ -263,9 +263,9 @@ module _ (o : Oracle) where
     listed-ground : (state : BallState) (s : GroundSample) → Listed (ground c state s) (groundPasses o c state s)
     unfolding ground groundFrom groundPasses stepsLeft _>>=_ bind
     listed-ground state s l =
-        listed-loop (λ (g : Roll). isLate (g .state .time) (c .«t_end»)) (λ g. timeUp (g .state) (lastPhase (g .last))) (groundStep c) onGround
+        listed-loop (λ (g : Roll). isLate (g .state .time) (c .«t_end»)) (λ g. timeUp (g .state) (lastPhase (lastOf (g .last)))) (groundStep c) onGround
         (λ g. makes-timeUp _ _) (makes-groundStep c)
-        (c .«step_limit» - l .steps) (roll state s (state .time) 0) l
+        (c .«step_limit» - l .steps) (rollFrom state s) l
 
     -- what follows a hop makes none
     makes-kept : (state : BallState) (hit : Struck) (m : ℕ) (w : Way) → Makes {A = Flown} 0 (elim w [

@@ -24,7 +24,7 @@ use Rattle.hop.specs.Hop.{flight, hopStep, hopFrom, hop}
 use Rattle.hop.specs.declared.Flight.{Flight}
 use Rattle.hop.specs.declared.Way.{Way}
 use Rattle.hop.specs.declared.Way.the-variants.{Arrived, Late}
-use Rattle.roll.specs.Roll.{roll, groundStep}
+use Rattle.roll.specs.Roll.{rollFrom, groundStep}
 use Rattle.roll.specs.declared.Roll.{Roll}
 use Rattle.roll.specs.declared.Ending.{Ending}
 use Rattle.strike.specs.Strike.{struck, strike, rebounds, diesOut, fly, dropped, drop}
@@ -185,7 +185,7 @@ module _ (c : Conditions) (paced : Paced c) where
     unfolding groundPasses
     each-ground state s i l =
         each-loop TimedRoll (λ _. Unit) lateRoll (groundStep c) ground-goes o (Bracketed c) onGround (ground-pass c paced) (c .«step_limit» - l .steps)
-        (roll state s (state .time) 0) i l
+        (rollFrom state s) i l
 
     each-fly : (hops : Bool) (hit : Struck) → TimedHit hit → (l : Log) → Each (Bracketed c) (flyPasses o c hops hit l)
     unfolding flyPasses

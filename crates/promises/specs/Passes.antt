@@ -19,7 +19,7 @@ use Rattle.shot.specs.declared.Shot.{Shot}
 use Rattle.hop.specs.Hop.{flight, hopStep}
 use Rattle.hop.specs.declared.Flight.{Flight}
 use Rattle.hop.specs.declared.Way.the-variants.{Arrived, Late}
-use Rattle.roll.specs.Roll.{roll, groundStep}
+use Rattle.roll.specs.Roll.{rollFrom, groundStep}
 use Rattle.roll.specs.declared.Roll.{Roll}
 use Rattle.strike.specs.Strike.{strike, rebounds, fly, drop}
 use Rattle.strike.specs.declared.Struck.{Struck}
@@ -60,7 +60,7 @@ module _ (o : Oracle) where
 
     -- GroundPhase, `ground`
     unfoldable pub groundPasses : BallState → GroundSample → Log → List Made
-    groundPasses state s l = loopPasses (λ g. isLate g.state.time c.«t_end») (groundStep c) onGround (c.«step_limit» - l.steps) (roll state s state.time 0) l
+    groundPasses state s l = loopPasses (λ g. isLate g.state.time c.«t_end») (groundStep c) onGround (c.«step_limit» - l.steps) (rollFrom state s) l
 
     -- Strike, `fly`
     unfoldable pub flyPasses : Bool → Struck → Log → List Made

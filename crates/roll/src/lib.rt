@@ -3,7 +3,7 @@ ghost use mathlib.Core.Path.{_≡_};
 ghost use Prim.Native.Nat.{_<_};
 ghost use Rattle.course.specs.Sheet.{courseOf};
 ghost use Rattle.course.specs.Index.{Ready};
-ghost use Rattle.roll.specs.Roll.{stepOn, lastOf, pointDue, heldOf, putDown};
+ghost use Rattle.roll.specs.Roll.{stepOn, wholePhase, lastOf, wasPhase, pointDue, heldOf, putDown};
 ghost use Rattle.roll.specs.Contracts.{RollPasses};
 use rolling::Stepped;
 use state::BallState;
@@ -23,12 +23,18 @@ pub struct Ending {
     pub state: BallState,
 }
 
-// What the ground loop carries from pass to pass. `last` is the phase of the last step: 0 before the first, else 1 slide, 2 roll, 3 hop.
+// The phase of the last step, if there was one: the Rust's `Option<Phase>`.
+pub enum LastPhase {
+    None,
+    Some(Phase),
+}
+
+// What the ground loop carries from pass to pass.
 pub struct Roll {
     pub state: BallState,
     pub at: GroundSample,
     pub next_sample: f64,
-    pub last: u8,
+    pub last: LastPhase,
 }
 
 // A pass goes on, ends at rest, or stops by a number, 21 or 22.
@@ -57,24 +63,34 @@ fn step_on(c: Conditions, g: Roll) -> Stepped
     )
 }
 
-// The phase as a number: 1 slide, 2 roll, 3 hop.
-pub fn last_of(phase: Phase) -> u8
-    ensures { λ r. ⌜ r ≡ lastOf phase ⌝ }
+// The phase as a number: 0 hop, 1 slide, 2 roll.
+pub fn whole_phase(phase: Phase) -> u8
+    ensures { λ r. ⌜ r ≡ wholePhase phase ⌝ }
 {
     match phase {
-        Phase::Hop => 3,
+        Phase::Hop => 0,
         Phase::Slide => 1,
         Phase::Roll => 2,
     }
 }
 
-fn point_due(t: f64, next_sample: f64, last: u8, phase: Phase) -> bool
-    ensures { λ r. ⌜ r ≡ pointDue t «next_sample» last phase ⌝ }
+// Whether the last step had this phase.
+fn was_phase(last: LastPhase, phase: Phase) -> bool
+    ensures { λ r. ⌜ r ≡ wasPhase (lastOf last) phase ⌝ }
+{
+    match last {
+        LastPhase::None => false,
+        LastPhase::Some(was) => whole_phase(was) == whole_phase(phase),
+    }
+}
+
+fn point_due(t: f64, next_sample: f64, last: LastPhase, phase: Phase) -> bool
+    ensures { λ r. ⌜ r ≡ pointDue t «next_sample» (lastOf last) phase ⌝ }
 {
     if tally::is_due(t, next_sample) {
         true
     } else {
-        last != last_of(phase)
+        !was_phase(last, phase)
     }
 }
 
@@ -126,7 +142,8 @@ pub fn ground_step(
     let s = step_on(c, g);
     let t1 = tally::count_step(t);
     let phase = s.phase;
-    let due = point_due(state.time, g.next_sample, g.last, phase);
+    let last = g.last;
+    let due = point_due(state.time, g.next_sample, last, phase);
     let Push::Made(t2) = tally::push_due(due, points, t1, state, phase) else {
         return RollPass::Ended(21, t1);
     };
@@ -153,7 +170,7 @@ pub fn ground_step(
         state: b,
         at: under,
         next_sample: tally::next_after(due, g.next_sample, state.time),
-        last: last_of(phase),
+        last: LastPhase::Some(phase),
     };
     RollPass::On(on, t4)
 }

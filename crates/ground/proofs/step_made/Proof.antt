@@ -42,7 +42,7 @@ returns-3 c = rw (c .step-refused3 .ensures) (step-by _ _ _ _ _ _ (stops 22) (st
 
 returns-4 : tie.Need-returns-4
 unfolding stepRun exec
-returns-4 c = rw (c .last-of .ensures) (step-by _ _ _ _ _ _ (goes _) (step-hit _ _ _ _ _ _ _ _ (rw (c .before .before .before .before .before .before .before .before .before .before .before .before .before .before .before .before .before .before .no-rect .ensures) at (c .before .before .before .before .before .before .before .before .before .before .before .before .before .before .before .before .before .scan-at .ensures)) (c .before .before .before .before .before .before .before .before .before .before .before .before .before .before .what .given .1) (c .before .before .before .before .before .before .before .before .before .before .before .before .contact-step .ensures) (look-saw _ _ _ _ _ _ (c .before .before .before .before .before .before .before .before .before .scan-at2 .ensures) (c .before .before .before .before .before .before .before .there .given .1) (test-ok _ _ _ _ (rw (c .before .before .before .before .radius-m .ensures) at (c .before .before .before .onto-surface .ensures)) (sym (c .before .before .state-ok .ensures) ∙ not-false (c .before .before .state-ok .result) (c .before .if1 .left)) refl))))
+returns-4 c = rw (c .whole-phase .ensures) (step-by _ _ _ _ _ _ (goes _) (step-hit _ _ _ _ _ _ _ _ (rw (c .before .before .before .before .before .before .before .before .before .before .before .before .before .before .before .before .before .before .no-rect .ensures) at (c .before .before .before .before .before .before .before .before .before .before .before .before .before .before .before .before .before .scan-at .ensures)) (c .before .before .before .before .before .before .before .before .before .before .before .before .before .before .what .given .1) (c .before .before .before .before .before .before .before .before .before .before .before .before .contact-step .ensures) (look-saw _ _ _ _ _ _ (c .before .before .before .before .before .before .before .before .before .scan-at2 .ensures) (c .before .before .before .before .before .before .before .there .given .1) (test-ok _ _ _ _ (rw (c .before .before .before .before .radius-m .ensures) at (c .before .before .before .onto-surface .ensures)) (sym (c .before .before .state-ok .ensures) ∙ not-false (c .before .before .state-ok .result) (c .before .if1 .left)) refl))))
 
 pub step-made-spec : {M : Type 1} → statement M
 step-made-spec =

@@ -10,7 +10,7 @@ use Rattle.tally.specs.Times.{isLate}
 use Rattle.tally.specs.Contracts.{place}
 use Rattle.tally.proofs.Reached.{on}
 use Rattle.tally.proofs.Loop.{Midway, starts, ends-late, ends-due, goes-on, ends-done}
-use Rattle.roll.specs.Roll.{groundStep}
+use Rattle.roll.specs.Roll.{lastOf, groundStep}
 use Rattle.roll.specs.Contracts.{rolledBy}
 use Rattle.ground_phase.specs.GroundPhase.{lastPhase, timeUp, groundFrom}
 use Rattle.ground_phase.proofs.ground.Statement.{statement}
@@ -18,7 +18,7 @@ use Rattle.ground_phase.proofs.ground.Tie as tie
 
 abbrev Inv-loop : tie.InvT-loop
 Inv-loop sheet index points₀ c g₀ t₀ points g t = (lc : List Float) →
-    Midway (courseOf sheet) c (λ g. isLate (g .state .time) (c .«t_end»)) (λ g. timeUp (g .state) (lastPhase (g .last))) (groundStep c) g₀
+    Midway (courseOf sheet) c (λ g. isLate (g .state .time) (c .«t_end»)) (λ g. timeUp (g .state) (lastPhase (lastOf (g .last)))) (groundStep c) g₀
     (place t₀ lc points₀) g (place t lc points)
 
 abbrev μ-loop : tie.MeasureT-loop

@@ -1,20 +1,23 @@
 -- The phase of the last step.
-use borrow.Author.Tests.{eq-eqb, ne-eqb}
+use borrow.Author.Needs.{needs}
+use Rattle.roll.specs.Roll.{lastOf}
 use Rattle.ground_phase.specs.GroundPhase.{lastPhase}
 use Rattle.ground_phase.proofs.last_phase.Statement.{statement}
 use Rattle.ground_phase.proofs.last_phase.Tie as tie
 
+enum-told : tie.Need-enum-told
+enum-told c = search needs
+
+enum-known-last : tie.Need-enum-known-last
+enum-known-last c = search needs
+
 returns : tie.Need-returns
-unfolding lastPhase
-returns c = rw (eq-eqb _ _ (c .if1 .taken))
+unfolding lastOf lastPhase
+returns c = rw (c .enum-told .given .1)
 
 returns-2 : tie.Need-returns-2
-unfolding lastPhase
-returns-2 c = rw (ne-eqb _ _ (c .if1 .left))
+unfolding lastOf lastPhase
+returns-2 c = rw (c .before .last .given .1)
 
 pub last-phase-spec : {M : Type 1} → statement M
-last-phase-spec =
-    tie.close
-    (tie.spec
-    returns
-    returns-2)
+last-phase-spec = tie.close (tie.spec enum-told enum-known-last returns returns-2)

@@ -162,13 +162,13 @@ returns-5 c lc =
     ended (point-pushed _ _ _ (came-held p lc) (p .push-point .ensures) (c .before .t5 .given .1))
 
 same-length-6 : tie.Need-same-length-6
-same-length-6 c = came-test (good (c .before .before .before)) [] .points .long
+same-length-6 c = came-test (good (c .before .before)) [] .points .long
 
 returns-6 : tie.Need-returns-6
 returns-6 c lc =
-    let h = c .before .before .before in
-    rw (c .before .next-after .ensures, c .last-of .ensures)
-    (ended (not-left _ _ _ (came-test (good h) lc) (h .held .ensures) (c .before .before .if1 .left)))
+    let h = c .before .before in
+    rw (c .next-after .ensures)
+    (ended (not-left _ _ _ (came-test (good h) lc) (h .held .ensures) (c .before .if1 .left)))
 
 pub ground-step-spec : {M : Type 1} → statement M
 ground-step-spec =
@@ -201,7 +201,6 @@ ground-step-spec =
     returns-4
     same-length-5
     returns-5
-    (λ c κs. tt)
     (λ c κs. tt)
     same-length-6
     returns-6)
