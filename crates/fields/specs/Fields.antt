@@ -1,12 +1,11 @@
 -- Definitions. Structs in a list of doubles, field after field, and a list with a run of doubles written at a place.
 use Prim.Native.Nat.{ℕ, _+_}
-use mathlib.Core.Bool.{Bool, _&&_, cond}
+use mathlib.Core.Bool.{Bool, _&&_}
 use mathlib.Core.List.{List, [], _∷_, _++_}
 use lib.Dec.{leb}
 use lib.ListN.{length, take, drop, getD}
 use lib.IntN.{pos}
-use lib.Ieee.{Float, nan, ofInt, binary64, neg, lt, eq, toUnsigned}
-use Rattle.number.specs.Ops.{dec}
+use lib.Ieee.{Float, nan, ofInt, binary64, eq, toUnsigned}
 use Rattle.vector.specs.Vec.{vec}
 use Rattle.vector.specs.declared.DVec3.{DVec3}
 use Rattle.state.specs.declared.BallState.{BallState}
@@ -16,12 +15,11 @@ use Rattle.aero.specs.declared.BallModel.{BallModel}
 abbrev pub wholeOf : ℕ → Float
 wholeOf n = ofInt binary64 (pos n)
 
--- the whole part of a double, or 0 where that is no u32
+-- Rust's `x as u32`: x without its fraction, the nearest end of 0 to 4294967295 where it is beyond, and 0 for a NaN
 unfoldable pub natOf : Float → ℕ
-natOf x =
-    cond (lt (neg (dec 1 1)) x && lt x (dec 18446744073709551616 1)) (cond (leb (toUnsigned 64 x) 4294967295) (toUnsigned 64 x) 0) 0
+natOf x = toUnsigned 32 x
 
--- x is, by value, a whole number from m to n
+-- x is, by value, a whole number from m to n: `whole-exactly`, WholeBack
 unfoldable pub isWhole : ℕ → ℕ → Float → Bool
 isWhole m n x = eq x (wholeOf (natOf x)) && (leb m (natOf x) && leb (natOf x) n)
 

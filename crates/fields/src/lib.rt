@@ -14,7 +14,7 @@ pub fn whole(n: u64) -> f64
     std::num::nearest_u64_to_f64(n)
 }
 
-// A double without its fraction, or 0 where that is no u32.
+// Rust's `x as u32`.
 pub fn nat_of(x: f64) -> u32
     ensures { λ r. ⌜ r ≡ natOf x ⌝ }
 {
@@ -24,9 +24,9 @@ pub fn nat_of(x: f64) -> u32
             if n <= 4294967295 {
                 return n as u32;
             }
-            return 0;
+            return 4294967295;
         }
-        return 0;
+        return 4294967295;
     }
     0
 }
