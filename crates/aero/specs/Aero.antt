@@ -2,7 +2,7 @@
 -- Assumes nothing.
 use lib.Ieee.{Float, neg, lt}
 use mathlib.Core.Bool.{cond}
-use Rattle.number.specs.Ops.{_⊕_, _⊖_, _⊗_, _⊘_, dec}
+use Rattle.number.specs.Ops.{_⊕_, _⊖_, _⊗_, _⊘_, dec, pi}
 use Rattle.number.specs.Number.{absOf}
 use Rattle.exponential.specs.Exp.{expOf}
 use Rattle.vector.specs.declared.DVec3.{DVec3}
@@ -44,9 +44,9 @@ tiny = dec 1 10000000000
 unfoldable pub radiusOf : BallModel → Float
 radiusOf b = b .«diameter_m» ⊘ dec 2 1
 
--- BallModel::area_m2: PI * self.radius_m() * self.radius_m(), with PI the decimal, rounded
+-- BallModel::area_m2: PI * self.radius_m() * self.radius_m()
 unfoldable pub areaOf : BallModel → Float
-areaOf b = dec 314159265358979323846264338327950288 100000000000000000000000000000000000 ⊗ radiusOf b ⊗ radiusOf b
+areaOf b = pi ⊗ radiusOf b ⊗ radiusOf b
 
 -- AIR_DYNAMIC_VISCOSITY, DEFAULT_SPIN_DECAY
 abbrev pub airDynamicViscosity : Float

@@ -1,9 +1,9 @@
 // The ball and its flight through the air: drag, Magnus lift and gravity.
 ghost use mathlib.Core.Path.{_≡_};
 ghost use Rattle.aero.specs.Aero.{tour, radiusOf, areaOf, cdClOf, magnusOf, fromSpinVector, accelerationOf};
+use number::PI;
 use vector::DVec3;
 
-const PI: f64 = 3.14159265358979323846264338327950288;
 // Standard gravity (m/s²), and the gravity vector.
 pub const G: f64 = 9.80665;
 

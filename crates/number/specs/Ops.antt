@@ -21,6 +21,10 @@ x ⊘ y = div binary64 x y
 abbrev pub dec : ℕ → ℕ → Float
 dec n d = round binary64 false n d
 
+-- std::f64::consts::PI: the decimal, rounded
+abbrev pub pi : Float
+pi = dec 314159265358979323846264338327950288 100000000000000000000000000000000000
+
 infix 5 if_then_else_
 abbrev pub if_then_else_ : {A : Type 0} → Bool → A → A → A
 if_then_else_ true a b = a

@@ -2,6 +2,9 @@
 ghost use mathlib.Core.Path.{_≡_};
 ghost use Rattle.number.specs.Number.{minOf, maxOf, clampOf, absOf, signumOf, finiteOf, withinOf};
 
+// std::f64::consts::PI.
+pub const PI: f64 = 3.14159265358979323846264338327950288;
+
 // The lesser. A NaN gives the other, and of two equal values it is a.
 pub fn min(a: f64, b: f64) -> f64
     ensures { λ r. ⌜ r ≡ minOf a b ⌝ }

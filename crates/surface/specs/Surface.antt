@@ -2,7 +2,7 @@
 -- Assumes nothing.
 use lib.Ieee.{Float, le}
 use mathlib.Core.Bool.{cond}
-use Rattle.number.specs.Ops.{_⊕_, _⊗_, _⊘_, dec}
+use Rattle.number.specs.Ops.{_⊕_, _⊗_, _⊘_, dec, pi}
 use Rattle.number.specs.Number.{absOf, minOf, finiteOf}
 use Rattle.root.specs.Root.{hypotOf}
 use Rattle.exponential.specs.Exp.{expOf}
@@ -52,10 +52,6 @@ speedFactor (RollLaw.Exponential vRef) speed = let s = speed ⊘ vRef in cond (f
 -- Surface::rolling_friction
 unfoldable pub rollingFriction : Surface → Float → Float
 rollingFriction s speed = s .«mu_roll» ⊗ speedFactor (s .«roll_law») speed
-
--- std::f64::consts::PI: the decimal, rounded
-abbrev pub pi : Float
-pi = dec 314159265358979323846264338327950288 100000000000000000000000000000000000
 
 -- PENNER_THETA_C = 15.4 * PI / 180.0
 unfoldable pub pennerThetaC : Float

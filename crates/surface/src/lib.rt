@@ -1,9 +1,8 @@
 // The ground's surfaces and what their laws give: restitution, rolling friction and Penner's contact angle.
 ghost use mathlib.Core.Path.{_≡_};
 ghost use Rattle.surface.specs.Surface.{fairway, green, coefficientAt, speedFactor, rollingFriction, contactAngle};
+use number::PI;
 use vector::DVec3;
-
-const PI: f64 = 3.14159265358979323846264338327950288;
 
 // Penner (2002) eq. 8 reference contact angle (rad): 15.4°.
 const PENNER_THETA_C: f64 = 15.4 * PI / 180.0;
