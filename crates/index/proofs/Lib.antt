@@ -1,2 +1,4 @@
 pub mod Reach
 pub mod Marks
+pub mod Halving
+pub mod Cuts

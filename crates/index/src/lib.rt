@@ -7,10 +7,13 @@ ghost use lib.Dec.{T};
 ghost use lib.Ieee.{binary64, nanBits};
 ghost use Rattle.sheet.specs.Sheet.{field, real, covers, first, surfaces, patches, answerOf};
 ghost use Rattle.sheet.specs.Accepted.{EdgesReal};
-ghost use Rattle.index.specs.Index.{Marks, reaches, cut, Indexed, Row, Ready};
+ghost use Rattle.index.specs.Index.{Marks, reaches, cut, indexWords, bitsOf, spreadOf, cutsIn, SameCuts, stripOf, isGuessed, Indexed, Row, Ready};
 
 // Up to as many patches are tried one by one, without an index: docs/SPEED.md has the measurement.
 const FEW: usize = 48;
+
+// The words of an index: 256 of marks and 34 cuts.
+pub const INDEX_WORDS: usize = 290;
 
 // A field that is known to be no NaN.
 fn edge(s: &[u8], i: usize, j: usize) -> f64
@@ -106,16 +109,16 @@ fn word_start(count: usize, n: usize, w: usize) -> usize
 }
 
 fn cut_at(index: &[u64], j: usize) -> f64
-    requires { ⌜ (length (now index) ≡ 290) × (j < 34) ⌝ }
+    requires { ⌜ (length (now index) ≡ indexWords) × (j < 34) ⌝ }
     ensures { λ r. ⌜ r ≡ cut (now (index .entry)) j ⌝ }
 {
     octets::float_of(index[256 + j])
 }
 
-// A column (d = 0) or a row (d = 1) whose cuts are likely to have x between them. Nothing is proved of it but that it is one.
+// A column (d = 0) or a row (d = 1) whose cuts are likely to have x between them.
 fn strip_of(index: &[u64], d: usize, x: f64) -> usize
-    requires { ⌜ (length (now index) ≡ 290) × (d < 2) ⌝ }
-    ensures { λ r. ⌜ r < 16 ⌝ }
+    requires { ⌜ (length (now index) ≡ indexWords) × (d < 2) ⌝ }
+    ensures { λ r. ⌜ (r < 16) × (r ≡ stripOf (now (index .entry)) d x) ⌝ }
 {
     let mut c = 0usize;
     let mut s = 8usize;
@@ -130,7 +133,8 @@ fn strip_of(index: &[u64], d: usize, x: f64) -> usize
 
 // Whether a look at the spot needs no scan: the column and the row that are guessed have the spot. How often that is, is not proved: `compare speed` counts it.
 pub fn is_guessed(index: &[u64], x: f64, z: f64) -> bool
-    requires { ⌜ length (now index) ≡ 290 ⌝ }
+    requires { ⌜ length (now index) ≡ indexWords ⌝ }
+    ensures { λ r. ⌜ r ≡ isGuessed (now (index .entry)) x z ⌝ }
 {
     let c = strip_of(index, 0, x);
     let e = strip_of(index, 1, z);
@@ -151,7 +155,7 @@ fn find_marked(
     z: f64,
 ) -> usize
     requires { ⌜ (answerOf (now sheet) ≡ 0) × ((count ≡ surfaces (now sheet)) × (n ≡ patches (now sheet))) ⌝ }
-    requires { ⌜ (length (now index) ≡ 290) × ((p ≤ 248) × (q ≤ 248)) ⌝ }
+    requires { ⌜ (length (now index) ≡ indexWords) × ((p ≤ 248) × (q ≤ 248)) ⌝ }
     requires { ⌜ Row (now sheet) (covers (now sheet) x z) (now index) p × Row (now sheet) (covers (now sheet) x z) (now index) q ⌝ }
     ensures { λ r. ⌜ r ≡ first (covers (now (sheet .entry)) x z) n count ⌝ }
 {
@@ -171,7 +175,7 @@ fn find_marked(
 // The same by the index. Where the spot is not in the column or the row that was guessed, all patches are tried.
 fn find_indexed(sheet: &[u8], index: &[u64], count: usize, n: usize, x: f64, z: f64) -> usize
     requires { ⌜ (answerOf (now sheet) ≡ 0) × ((count ≡ surfaces (now sheet)) × (n ≡ patches (now sheet))) ⌝ }
-    requires { ⌜ (length (now index) ≡ 290) × Indexed (now sheet) (now index) ⌝ }
+    requires { ⌜ (length (now index) ≡ indexWords) × Indexed (now sheet) (now index) ⌝ }
     ensures { λ r. ⌜ r ≡ first (covers (now (sheet .entry)) x z) n count ⌝ }
 {
     let c = strip_of(index, 0, x);
@@ -200,8 +204,8 @@ pub fn find(sheet: &[u8], index: &[u64], count: usize, n: usize, x: f64, z: f64)
 // The words of marks of every column and row, by the cuts that are there.
 fn fill_marks(sheet: &[u8], count: usize, n: usize, index: &mut [u64])
     requires { ⌜ (answerOf (now sheet) ≡ 0) × ((count ≡ surfaces (now sheet)) × (n ≡ patches (now sheet))) ⌝ }
-    requires { ⌜ length (now index) ≡ 290 ⌝ }
-    ensures { λ _. ⌜ (length (now (index .exit)) ≡ 290) × Indexed (now (sheet .entry)) (now (index .exit)) ⌝ }
+    requires { ⌜ length (now index) ≡ indexWords ⌝ }
+    ensures { λ _. ⌜ ((length (now (index .exit)) ≡ indexWords) × Indexed (now (sheet .entry)) (now (index .exit))) × SameCuts (now (index .exit)) (now (index .entry)) ⌝ }
 {
     let mut k = 0usize;
     while k < 256 {
@@ -216,15 +220,17 @@ fn fill_marks(sheet: &[u8], count: usize, n: usize, index: &mut [u64])
 }
 
 // The bits of a double; 0 for a NaN.
-fn bits_of(x: f64) -> u64 {
+fn bits_of(x: f64) -> u64
+    ensures { λ r. ⌜ r ≡ bitsOf x ⌝ }
+{
     if x == x { f64::to_bits(x) } else { 0 }
 }
 
-// Writes 17 cuts, evenly over the edges along one axis. Nothing is proved of them: a look tests that the spot is between its two.
+// Writes 17 cuts, evenly over the edges along one axis. No look depends on them: it tests that the spot is between its two.
 fn spread(sheet: &[u8], count: usize, n: usize, d: usize, index: &mut [u64])
     requires { ⌜ (answerOf (now sheet) ≡ 0) × ((count ≡ surfaces (now sheet)) × (n ≡ patches (now sheet))) ⌝ }
-    requires { ⌜ (length (now index) ≡ 290) × (d < 2) ⌝ }
-    ensures { λ _. ⌜ length (now (index .exit)) ≡ 290 ⌝ }
+    requires { ⌜ (length (now index) ≡ indexWords) × (d < 2) ⌝ }
+    ensures { λ _. ⌜ (length (now (index .exit)) ≡ indexWords) × (now (index .exit) ≡ spreadOf (now (sheet .entry)) d (now (index .entry))) ⌝ }
 {
     let mut lo = 1000000.0;
     let mut hi = -1000000.0;
@@ -249,8 +255,8 @@ fn spread(sheet: &[u8], count: usize, n: usize, d: usize, index: &mut [u64])
 
 // Makes the index of an accepted sheet. Few patches need none.
 pub fn make_index(sheet: &[u8], index: &mut [u64])
-    requires { ⌜ (answerOf (now sheet) ≡ 0) × (length (now index) ≡ 290) ⌝ }
-    ensures { λ _. ⌜ Ready (now (sheet .entry)) (now (index .exit)) ⌝ }
+    requires { ⌜ (answerOf (now sheet) ≡ 0) × (length (now index) ≡ indexWords) ⌝ }
+    ensures { λ _. ⌜ Ready (now (sheet .entry)) (now (index .exit)) × SameCuts (now (index .exit)) (cutsIn (now (sheet .entry)) (now (index .entry))) ⌝ }
 {
     let count = octets::half(sheet, 0) as usize;
     let n = octets::half(sheet, 8) as usize;

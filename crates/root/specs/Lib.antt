@@ -3,3 +3,4 @@ pub mod Inner
 pub mod Halfway
 pub mod Nearest
 pub mod Finite
+pub mod Guess

@@ -1,4 +1,4 @@
-// The square root of a double, rounded to the nearest. A float estimate, of which nothing is proved, is tested exactly in whole numbers. Where the test fails, it is corrected by 1, or a digit loop works out the root.
+// The square root of a double, rounded to the nearest. A float estimate, not proved to be near, is tested exactly in whole numbers. Where the test fails, it is corrected by 1, or a digit loop works out the root.
 ghost use mathlib.Core.Path.{_≡_};
 ghost use Prim.Native.Nat.{_+_, _*_, _<_, _≤_};
 ghost use mathlib.Core.Bool.{true, not};
@@ -6,6 +6,7 @@ ghost use lib.Dec.{T};
 ghost use lib.Ieee.{isNan};
 ghost use Rattle.root.specs.Root.{rootOf, hypotOf};
 ghost use Rattle.root.specs.Inner.{Near, Aligned, Radicand, RootBits, Guess};
+ghost use Rattle.root.specs.Guess.{cutOf, estimateOf, isNear, isSure, guessOf};
 
 // The whole number nearest the root of m * 2^52, binary digit by binary digit.
 fn digits(m: u64) -> u64
@@ -76,6 +77,7 @@ fn corrected(m: u64, r: u64) -> u64
 // s without its last 27 digits.
 fn cut(s: f64) -> f64
     requires { ⌜ T (not (isNan s)) ⌝ }
+    ensures { λ r. ⌜ r ≡ cutOf s ⌝ }
 {
     f64::from_bits(f64::to_bits(s) / 134217728 * 134217728)
 }
@@ -84,6 +86,7 @@ fn cut(s: f64) -> f64
 // f * q is a cubic in t; y is 1 / (2 root x) to 2^-21. sh is the first estimate of the root cut to 26 digits, so that sh * sh and sh * sh - x are exact.
 fn estimate(x: f64, b: u64) -> f64
     requires { ⌜ b < 9218868437227405312 ⌝ }
+    ensures { λ r. ⌜ r ≡ estimateOf x b ⌝ }
 {
     let y0 = f64::from_bits((13823763871841648640 - b) / 2);
     let t = x * 0.3149496573049748 * y0 * y0;
@@ -105,7 +108,7 @@ fn estimate(x: f64, b: u64) -> f64
 // and r is the nearest where that is neither below 0 nor above 8 r. 1024 is added to 1024 m - a a, and 2^31 to the left of the test, so that nothing is below 0.
 fn is_near(m: u64, r: u64) -> bool
     requires { ⌜ ((4503599627370496 ≤ m) × (m < 18014398509481983)) × ((4503599627370496 ≤ r) × (r < 9007199254740992)) ⌝ }
-    ensures { λ s. ⌜ (s ≡ true → Near m r) ⌝ }
+    ensures { λ s. ⌜ (s ≡ true → Near m r) × (s ≡ isNear m r) ⌝ }
 {
     let a = r / 2097152;
     let k = a * a;
@@ -141,7 +144,7 @@ fn radicand(w: u64) -> u64
 // True only if w are the bits of the root of the normal double with the bits b.
 fn sure(b: u64, w: u64) -> bool
     requires { ⌜ (4503599627370496 ≤ b) × (b < 9218868437227405312) ⌝ }
-    ensures { λ r. ⌜ (r ≡ true → RootBits b w) ⌝ }
+    ensures { λ r. ⌜ (r ≡ true → RootBits b w) × (r ≡ isSure b w) ⌝ }
 {
     let v = b + 4607182418800017408;
     if w / 4503599627370496 != v / 9007199254740992 {
@@ -194,7 +197,7 @@ fn positive(b: u64) -> u64
 
 // The bits of the root of x, or 0: where x is no normal double above 0, or its estimate is not sure. How often that is, is not proved: `compare speed` counts it.
 pub fn guess(x: f64) -> u64
-    ensures { λ r. ⌜ Guess x r ⌝ }
+    ensures { λ r. ⌜ Guess x r × (r ≡ guessOf x) ⌝ }
 {
     if x != x {
         return 0;

@@ -22,7 +22,7 @@ try-grid-requires c κs =
     let at-make-index = c .before .before .before .before in
     let at-aim-refusal = at-make-index .before .before .before in
     let k = aim-accepted _ _ _ _ _ _ _ (sym (at-aim-refusal .aim-refusal .ensures) ∙ at-make-index .before .before .if1 .left) in
-    (k .settles, at-make-index .make-index .ensures, k .rows-fit, k .columns-fit)
+    (k .settles, at-make-index .make-index .ensures .0, k .rows-fit, k .columns-fit)
 
 returns-2 : tie.Need-returns-2
 returns-2 c =

@@ -21,7 +21,7 @@ slice-aggregate-settle-with : tie.Need-slice-aggregate-settle-with
 slice-aggregate-settle-with c = search needs
 
 settle-with-requires : tie.Need-settle-with-requires
-settle-with-requires c κs = let m = c .before .before .before .before in (sym (m .before .before .before .refusal .ensures) ∙ m .before .before .if1 .left, m .make-index .ensures)
+settle-with-requires c κs = let m = c .before .before .before .before in (sym (m .before .before .before .refusal .ensures) ∙ m .before .before .if1 .left, m .make-index .ensures .0)
 
 same-length : tie.Need-same-length
 same-length c = c .before .before .before .before .settle-with .kept .1 .1 .1 .0

@@ -4,6 +4,7 @@ use mathlib.Core.Bool.{true, not, true≢false}
 use lib.Dec.{T}
 use lib.Ieee.{Float, nan, inf, fin, eq, isNan}
 use borrow.Author.Needs.{needs}
+use Rattle.index.specs.Index.{bitsOf}
 use Rattle.index.proofs.bits_of.Statement.{statement}
 use Rattle.index.proofs.bits_of.Tie as tie
 
@@ -16,5 +17,13 @@ no-nan (fin s m d) e = tt
 float-to-bits-result : tie.Need-float-to-bits-result
 float-to-bits-result c = no-nan _ (c .if1 .taken)
 
+returns : tie.Need-returns
+unfolding bitsOf
+returns c = rw (c .if1 .taken)
+
+returns-2 : tie.Need-returns-2
+unfolding bitsOf
+returns-2 c = rw (c .if1 .left)
+
 pub bits-of-spec : {M : Type 1} → statement M
-bits-of-spec = tie.close (tie.spec float-to-bits-result (λ c. search needs) (λ c. search needs))
+bits-of-spec = tie.close (tie.spec float-to-bits-result returns returns-2)

@@ -2,23 +2,24 @@
 use Prim.Native.Nat.{ℕ, _+_, _-_, _/_, _%_, _≤_, _<_}
 use native.Mathlib.Nat.{not-suc-le-zero}
 use native.Mathlib.Omega.{arith}
-use mathlib.Core.Path.{_≡_, _∙_, sym}
+use mathlib.Core.Path.{_≡_, refl, _∙_, sym}
 use lib.ListN.{length, getD, length-set}
 use Rattle.sheet.specs.Accepted.{accepted}
-use Rattle.index.specs.Index.{Entry, Indexed, reaches, cut, strip}
+use Rattle.index.specs.Index.{Entry, Indexed, reaches, cut, strip, indexWords, SameCuts}
 use Rattle.index.proofs.Marks.{filled, placed}
+use Rattle.index.proofs.Cuts.{kept-cuts}
 use borrow.Author.Needs.{needs}
 use Rattle.index.proofs.fill_marks.Statement.{statement}
 use Rattle.index.proofs.fill_marks.Tie as tie
 
 abbrev Inv-loop : tie.InvT-loop
-Inv-loop sheet count n index₀ k₀ index k = (length index ≡ 290) × ((k ≤ 256) × ((i : ℕ) → i < k → Entry sheet index i (getD index i 0)))
+Inv-loop sheet count n index₀ k₀ index k = (length index ≡ indexWords) × ((k ≤ 256) × (((i : ℕ) → i < k → Entry sheet index i (getD index i 0)) × SameCuts index index₀))
 
 abbrev μ-loop : tie.MeasureT-loop
 μ-loop sheet count n index₀ k₀ index k = 256 - k
 
 loop-holds : tie.Need-loop-holds Inv-loop μ-loop
-loop-holds c = (c .before .before .pre .1, (omega arith, λ i l. absurd (not-suc-le-zero l)))
+loop-holds c = (c .before .before .pre .1, (omega arith, (λ i l. absurd (not-suc-le-zero l), λ j. refl)))
 
 slice-read-float-of : tie.Need-slice-read-float-of Inv-loop μ-loop
 slice-read-float-of c = omega (arith, c .before .before .loop .inv .0)
@@ -49,9 +50,12 @@ loop-again c =
       length-set l k (c .mark .result) ∙ c .before .before .before .before .before .before .before .before .loop .inv .0,
       (
         omega arith,
-        filled s l k (c .mark .result) (omega (arith, c .before .before .before .before .before .before .before .before .loop .inv .0)) (omega arith) (c .before .before .before .before .before .before .before .before .loop .inv .1 .1)
-            (placed s (reaches s (k / 128) (cut l (strip k)) (cut l (strip k + 1))) (c .mark .result) (c .before .before .word-start .result) (c .before .word-start2 .result) (c .before .before .before .before .before .before .before .before .before .before .before .args .count) (c .before .before .before .before .before .before .before .before .before .before .before .args .n) (k % 8)
-            (c .before .before .word-start .ensures) (c .before .word-start2 .ensures) (c .before .before .before .before .before .before .before .before .before .before .before .pre .0 .1 .0) (c .before .before .before .before .before .before .before .before .before .before .before .pre .0 .1 .1) (rw (← c .before .before .before .before .before .float-of .ensures, ← c .before .before .before .float-of2 .ensures) (c .mark .ensures))),
+        (
+          filled s l k (c .mark .result) (omega (arith, c .before .before .before .before .before .before .before .before .loop .inv .0)) (omega arith) (c .before .before .before .before .before .before .before .before .loop .inv .1 .1 .0)
+              (placed s (reaches s (k / 128) (cut l (strip k)) (cut l (strip k + 1))) (c .mark .result) (c .before .before .word-start .result) (c .before .word-start2 .result) (c .before .before .before .before .before .before .before .before .before .before .before .args .count) (c .before .before .before .before .before .before .before .before .before .before .before .args .n) (k % 8)
+              (c .before .before .word-start .ensures) (c .before .word-start2 .ensures) (c .before .before .before .before .before .before .before .before .before .before .before .pre .0 .1 .0) (c .before .before .before .before .before .before .before .before .before .before .before .pre .0 .1 .1) (rw (← c .before .before .before .before .before .float-of .ensures, ← c .before .before .before .float-of2 .ensures) (c .mark .ensures))),
+          kept-cuts l (c .before .before .before .before .before .before .before .before .before .before .before .args .index .now) k (c .mark .result) (omega arith) (c .before .before .before .before .before .before .before .before .loop .inv .1 .1 .1),
+        ),
       ),
     )
 
@@ -60,7 +64,7 @@ same-length c = c .before .loop .inv .0 ∙ sym (c .before .before .before .befo
 
 returns : tie.Need-returns Inv-loop μ-loop
 unfolding Indexed
-returns c = (c .before .loop .inv .0, λ i l. c .before .loop .inv .1 .1 i (omega arith))
+returns c = ((c .before .loop .inv .0, λ i l. c .before .loop .inv .1 .1 .0 i (omega arith)), c .before .loop .inv .1 .1 .1)
 
 pub fill-marks-spec : {M : Type 1} → statement M
 fill-marks-spec = tie.close (tie.spec Inv-loop μ-loop loop-holds (λ c. search needs) (λ c. search needs) (λ c. search needs) (λ c. search needs) slice-read-float-of (λ c κs. search needs) (λ c. search needs) (λ c. search needs) (λ c. search needs) slice-read-float-of-2 (λ c κs. search needs) word-start-requires (λ c. search needs) word-start-requires-2 mark-requires (λ c. search needs) slice-write-index (λ c. search needs) (λ c. search needs) loop-again same-length returns)

@@ -11,13 +11,13 @@ strip-of-requires : tie.Need-strip-of-requires
 strip-of-requires c κs = (c .before .before .pre .1 .0, omega arith)
 
 cut-at-requires : tie.Need-cut-at-requires
-cut-at-requires c κs = (c .before .before .before .pre .1 .0, omega (arith, c .strip-of .ensures))
+cut-at-requires c κs = (c .before .before .before .pre .1 .0, omega (arith, c .strip-of .ensures .0))
 
 add-cut-at : tie.Need-add-cut-at
-add-cut-at c = omega (arith, c .before .strip-of .ensures)
+add-cut-at c = omega (arith, c .before .strip-of .ensures .0)
 
 cut-at-requires-2 : tie.Need-cut-at-requires-2
-cut-at-requires-2 c κs = (c .before .before .before .before .pre .1 .0, omega (arith, c .before .strip-of .ensures))
+cut-at-requires-2 c κs = (c .before .before .before .before .pre .1 .0, omega (arith, c .before .strip-of .ensures .0))
 
 find-patch-requires : tie.Need-find-patch-requires
 find-patch-requires c κs = c .before .before .before .before .before .before .before .pre .0
@@ -29,19 +29,19 @@ strip-of-requires-2 : tie.Need-strip-of-requires-2
 strip-of-requires-2 c κs = (c .before .before .before .before .before .before .before .pre .1 .0, omega arith)
 
 add-cut-at-2 : tie.Need-add-cut-at-2
-add-cut-at-2 c = omega (arith, c .strip-of2 .ensures)
+add-cut-at-2 c = omega (arith, c .strip-of2 .ensures .0)
 
 cut-at-requires-3 : tie.Need-cut-at-requires-3
-cut-at-requires-3 c κs = (c .before .before .before .before .before .before .before .before .pre .1 .0, omega (arith, c .strip-of2 .ensures))
+cut-at-requires-3 c κs = (c .before .before .before .before .before .before .before .before .pre .1 .0, omega (arith, c .strip-of2 .ensures .0))
 
 add-cut-at-3 : tie.Need-add-cut-at-3
-add-cut-at-3 c = omega (arith, c .before .strip-of2 .ensures)
+add-cut-at-3 c = omega (arith, c .before .strip-of2 .ensures .0)
 
 add-cut-at-4 : tie.Need-add-cut-at-4
-add-cut-at-4 c = omega (arith, c .before .strip-of2 .ensures)
+add-cut-at-4 c = omega (arith, c .before .strip-of2 .ensures .0)
 
 cut-at-requires-4 : tie.Need-cut-at-requires-4
-cut-at-requires-4 c κs = (c .before .before .before .before .before .before .before .before .before .pre .1 .0, omega (arith, c .before .strip-of2 .ensures))
+cut-at-requires-4 c κs = (c .before .before .before .before .before .before .before .before .before .pre .1 .0, omega (arith, c .before .strip-of2 .ensures .0))
 
 find-patch-requires-2 : tie.Need-find-patch-requires-2
 find-patch-requires-2 c κs = c .before .before .before .before .before .before .before .before .before .before .before .before .pre .0
@@ -50,13 +50,13 @@ returns-2 : tie.Need-returns-2
 returns-2 c = c .find-patch2 .ensures
 
 mul-find-marked : tie.Need-mul-find-marked
-mul-find-marked c = omega (arith, c .before .before .before .before .before .before .before .before .before .strip-of .ensures)
+mul-find-marked c = omega (arith, c .before .before .before .before .before .before .before .before .before .strip-of .ensures .0)
 
 mul-find-marked-2 : tie.Need-mul-find-marked-2
-mul-find-marked-2 c = omega (arith, c .before .before .before .before .strip-of2 .ensures)
+mul-find-marked-2 c = omega (arith, c .before .before .before .before .strip-of2 .ensures .0)
 
 add-find-marked : tie.Need-add-find-marked
-add-find-marked c = omega (arith, c .before .before .before .before .strip-of2 .ensures)
+add-find-marked c = omega (arith, c .before .before .before .before .strip-of2 .ensures .0)
 
 find-marked-requires : tie.Need-find-marked-requires
 find-marked-requires c κs =
@@ -64,11 +64,11 @@ find-marked-requires c κs =
     let ix = c .before .before .before .before .before .before .before .before .before .before .before .before .args .index .now in (
       c .before .before .before .before .before .before .before .before .before .before .before .before .pre .0,
       (
-        (c .before .before .before .before .before .before .before .before .before .before .before .before .pre .1 .0, (omega (arith, c .before .before .before .before .before .before .before .before .before .strip-of .ensures), omega (arith, c .before .before .before .before .strip-of2 .ensures))),
+        (c .before .before .before .before .before .before .before .before .before .before .before .before .pre .1 .0, (omega (arith, c .before .before .before .before .before .before .before .before .before .strip-of .ensures .0), omega (arith, c .before .before .before .before .strip-of2 .ensures .0))),
         (
-          column s ix (c .before .before .before .before .before .before .before .before .before .before .before .before .args .x) (c .before .before .before .before .before .before .before .before .before .before .before .before .args .z) (c .before .before .before .before .before .before .before .before .before .before .before .before .pre .1 .1) (c .before .before .before .before .before .before .before .before .before .strip-of .result) (c .before .before .before .before .before .before .before .before .before .strip-of .ensures)
+          column s ix (c .before .before .before .before .before .before .before .before .before .before .before .before .args .x) (c .before .before .before .before .before .before .before .before .before .before .before .before .args .z) (c .before .before .before .before .before .before .before .before .before .before .before .before .pre .1 .1) (c .before .before .before .before .before .before .before .before .before .strip-of .result) (c .before .before .before .before .before .before .before .before .before .strip-of .ensures .0)
               (rw (← c .before .before .before .before .before .before .before .before .cut-at .ensures, ← c .before .before .before .before .before .before .before .cut-at2 .ensures) (sym (c .before .before .before .before .before .before .within .ensures) ∙ not-false (c .before .before .before .before .before .before .within .result) (c .before .before .before .before .before .if1 .left))),
-          band s ix (c .before .before .before .before .before .before .before .before .before .before .before .before .args .x) (c .before .before .before .before .before .before .before .before .before .before .before .before .args .z) (c .before .before .before .before .before .before .before .before .before .before .before .before .pre .1 .1) (c .before .before .before .before .strip-of2 .result) (c .before .before .before .before .strip-of2 .ensures)
+          band s ix (c .before .before .before .before .before .before .before .before .before .before .before .before .args .x) (c .before .before .before .before .before .before .before .before .before .before .before .before .args .z) (c .before .before .before .before .before .before .before .before .before .before .before .before .pre .1 .1) (c .before .before .before .before .strip-of2 .result) (c .before .before .before .before .strip-of2 .ensures .0)
               (rw (← c .before .before .before .cut-at3 .ensures, ← c .before .before .cut-at4 .ensures) (sym (c .before .within2 .ensures) ∙ not-false (c .before .within2 .result) (c .if2 .left))),
         ),
       ),

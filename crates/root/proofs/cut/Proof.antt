@@ -1,9 +1,10 @@
--- `root::cut` ends and is safe. Assumes nothing.
-use mathlib.Core.Path.{sym, subst}
+-- `root::cut` meets its contract. Assumes nothing.
+use mathlib.Core.Path.{refl, sym, subst}
 use native.Mathlib.Omega.{arith}
 use lib.Dec.{T}
 use lib.Ieee.{binary64, fits}
 use lib.Ieee.Bits.{ofBits-toBits, toBits-lt, nanBits-is}
+use Rattle.root.specs.Guess.{cutOf}
 use Rattle.root.proofs.Patterns.{cut-no-nan}
 use borrow.Author.Needs.{needs}
 use Rattle.root.proofs.cut.Statement.{statement}
@@ -24,7 +25,8 @@ float-from-bits-result : tie.Need-float-from-bits-result
 float-from-bits-result c = cut-no-nan _ (rw (nanBits-is, ofBits-toBits binary64 _ (held c)) (c .pre))
 
 returns : tie.Need-returns
-returns c = search needs
+unfolding cutOf
+returns c = refl
 
 pub cut-spec : {M : Type 1} → statement M
 cut-spec = tie.close (tie.spec float-to-bits-result mul-result float-from-bits-result returns)

@@ -1,5 +1,7 @@
--- `root::estimate` ends and is safe: of its result nothing is said. Assumes nothing.
+-- `root::estimate` meets its contract. Assumes nothing.
 use native.Mathlib.Omega.{arith}
+use lib.Ieee.{ofBits, round}
+use Rattle.root.specs.Guess.{bettered, estimateOf}
 use Rattle.root.proofs.NotNan.{not-nan}
 use Rattle.root.proofs.Patterns.{no-nan}
 use borrow.Author.Needs.{needs}
@@ -13,13 +15,15 @@ float-from-bits-y0 : tie.Need-float-from-bits-y0
 float-from-bits-y0 c = no-nan _ (omega arith)
 
 returns : tie.Need-returns
-returns c = search needs
+unfolding estimateOf ofBits round
+returns c = rw (c .if1 .taken)
 
 cut-requires : tie.Need-cut-requires
 cut-requires c κs = not-nan _ (c .if1 .left)
 
 returns-2 : tie.Need-returns-2
-returns-2 c = search needs
+unfolding estimateOf bettered ofBits round
+returns-2 c = rw (c .before .if1 .left, c .cut .ensures)
 
 pub estimate-spec : {M : Type 1} → statement M
 estimate-spec =

@@ -3,9 +3,10 @@ use mathlib.Core.Path.{_≡_, sym}
 use mathlib.Core.Bool.{true, false, true≢false}
 use native.Mathlib.Omega.{arith}
 use Rattle.root.specs.Inner.{Near}
+use Rattle.root.specs.Guess.{isNear}
 use Rattle.root.proofs.Testing.{Parts, parts, tested}
 use borrow.Author.Needs.{needs}
-use borrow.Author.Tests.{ltb-true}
+use borrow.Author.Tests.{ltb-true, lt-ltb, le-ltb, le-leb, lt-leb}
 use Rattle.root.proofs.is_near.Statement.{statement}
 use Rattle.root.proofs.is_near.Tie as tie
 use Rattle.root.proofs.is_near.Reads as reads
@@ -24,13 +25,15 @@ add-n : tie.Need-add-n
 add-n c = search needs
 
 returns : tie.Need-returns
-returns c e = absurd (true≢false (sym e))
+unfolding isNear
+returns c = (λ e. absurd (true≢false (sym e)), rw (lt-ltb _ _ (c .if1 .taken)))
 
 mul-if2 : tie.Need-mul-if2
 mul-if2 c = search needs
 
 returns-2 : tie.Need-returns-2
-returns-2 c e = absurd (true≢false (sym e))
+unfolding isNear
+returns-2 c = (λ e. absurd (true≢false (sym e)), rw (le-ltb _ _ (c .before .if1 .left), le-leb _ _ (c .if2 .taken)))
 
 mul-h : tie.Need-mul-h
 mul-h c = search needs
@@ -54,15 +57,19 @@ add-p-2 : tie.Need-add-p-2
 add-p-2 c = omega (arith, at (c .before .before))
 
 returns-3 : tie.Need-returns-3
-returns-3 c e = absurd (true≢false (sym e))
+unfolding isNear
+returns-3 c = (λ e. absurd (true≢false (sym e)), rw (le-ltb _ _ (c .before .before .if1 .left), lt-leb _ _ (c .before .if2 .left), lt-ltb _ _ (c .if3 .taken)))
 
 mul-result : tie.Need-mul-result
 mul-result c = search needs
 
 returns-4 : tie.Need-returns-4
-returns-4 c e =
-    let a = c .before .before .before in
-    tested (a .args .m) (a .args .r) _ (a .pre .1 .0) (a .pre .1 .1) (omega (arith, c .before .before .if1 .left)) (c .if3 .left) (ltb-true _ _ e)
+unfolding isNear
+returns-4 c =
+    let a = c .before .before .before in (
+      λ e. tested (a .args .m) (a .args .r) _ (a .pre .1 .0) (a .pre .1 .1) (omega (arith, c .before .before .if1 .left)) (c .if3 .left) (ltb-true _ _ e),
+      rw (le-ltb _ _ (c .before .before .if1 .left), lt-leb _ _ (c .before .if2 .left), le-ltb _ _ (c .if3 .left)),
+    )
 
 pub is-near-spec : {M : Type 1} → statement M
 is-near-spec =
