@@ -247,7 +247,7 @@ pub fn aim(
     if answer != 0 {
         return no_aim(answer);
     }
-    let mut index = [0u64; 290];
+    let mut index = [0u64; course::INDEX_WORDS];
     course::make_index(sheet, &mut index);
     let found = try_grid(
         sheet,

@@ -1,6 +1,6 @@
 -- Statements. Every look of two short shots, in order, in air and without: the definition's list is the one that the Rust makes through `sample`
 -- (compare/data/looks.txt, whose inputs these are).
-use Prim.Native.Nat.{ℕ}
+use Prim.Native.Nat.{ℕ, _*_}
 use mathlib.Core.Path.{_≡_, refl}
 use mathlib.Core.List.{List, [], _∷_}
 use lib.ListN.{replicate}
@@ -13,6 +13,7 @@ use Rattle.surface.specs.declared.RollLaw.{RollLaw}
 use Rattle.surface.specs.declared.Surface.{Surface}
 use Rattle.aero.specs.Aero.{tour}
 use Rattle.look.specs.Tree.{Spot}
+use Rattle.tally.specs.Language.{pointWidth, contactWidth}
 use Rattle.shot.specs.declared.GroundPhysics.{GroundPhysics}
 use Rattle.shot.specs.declared.Shot.{Shot}
 use Rattle.ground.specs.Settle.{looksOf}
@@ -50,7 +51,7 @@ shot density = record { physics = physics; «step_limit» = 100; ball = tour; «
 
 -- the looks at this density, with 64 contacts and 640 points lent
 abbrev looksIn : Float → List Spot
-looksIn density = looksOf (sheetOf surface) (shot density) (replicate 1280 (dec 0 1)) (replicate 7040 (dec 0 1))
+looksIn density = looksOf (sheetOf surface) (shot density) (replicate (64 * contactWidth) (dec 0 1)) (replicate (640 * pointWidth) (dec 0 1))
 
 -- ---- the looks
 

@@ -5,6 +5,7 @@ ghost use lib.ListN.{length};
 ghost use Rattle.look.specs.Tree.{exec, did, lookTree};
 ghost use Rattle.course.specs.Index.{Ready};
 ghost use Rattle.course.specs.Sheet.{field, surfaces, patches, answerOf, first, covers, restitutionOf, lawOf, surfaceOf, patchSample, plainSample, courseOf, heightOf};
+pub use index::INDEX_WORDS;
 pub use index::make_index;
 use look::Look;
 use look::LookOut;

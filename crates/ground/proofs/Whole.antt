@@ -16,7 +16,7 @@ use Rattle.look.specs.declared.Rect.{Rect}
 use Rattle.course.specs.Sheet.{answerOf, courseOf}
 use Rattle.records.specs.Records.{Clean, recs, shown, zeroed}
 use Rattle.records.proofs.Laws.{shows, clean-zeroed, zeroed-length, recs-length}
-use Rattle.tally.specs.Language.{Ran, ran, Log, Outcome, if_then_else_}
+use Rattle.tally.specs.Language.{Ran, ran, Log, Outcome, if_then_else_, pointWidth, contactWidth}
 use Rattle.tally.specs.Contracts.{place, logAt, Grown}
 use Rattle.shot.specs.declared.Shot.{Shot}
 use Rattle.tally.specs.declared.Conditions.{Conditions}
@@ -68,11 +68,11 @@ pub settled-whole : (s : List ℕ) (shot : Shot) (cs ps : List Float) (r : RunOu
     → result (settledBy r) mc mp ≡ settleOf s shot cs ps
 unfolding settleOf reportOf runOf recs
 settled-whole s shot cs ps r {mc = mc} {mp} h ec t lc lp =
-    let vc = seen 20 (afterRun r .contacts) cs mc (t .contacts) (clean-zeroed 20 0 cs zero-le) lc in
-    let vp = seen 11 (afterRun r .points) ps mp (t .points) (clean-zeroed 11 0 ps zero-le) lp in
+    let vc = seen contactWidth (afterRun r .contacts) cs mc (t .contacts) (clean-zeroed contactWidth 0 cs zero-le) lc in
+    let vp = seen pointWidth (afterRun r .points) ps mp (t .points) (clean-zeroed pointWidth 0 ps zero-le) lp in
     let d = did (ran (endedBy r) (logAt (place (afterRun r) mc mp))) (afterRun r .rect) in
     let a : result (settledBy r) mc mp ≡ reportOf (length cs) (length ps) d
-    = rw (recs-length 20 (afterRun r .contacts) mc, recs-length 11 (afterRun r .points) mp, ← vc, ← vp) in
+    = rw (recs-length contactWidth (afterRun r .contacts) mc, recs-length pointWidth (afterRun r .points) mp, ← vc, ← vp) in
     rw h (a ∙ ap (reportOf (length cs) (length ps)) (rw (zeroed-length cs 0, zeroed-length ps 0, ec) at (t .same)))
 
 -- a step, an impact

@@ -14,7 +14,7 @@ use Rattle.look.specs.Tree.{Tree, Spot, Did, exec, looks}
 use Rattle.look.specs.declared.Rect.{Rect}
 use Rattle.course.specs.Sheet.{courseOf}
 use Rattle.records.specs.Records.{shown}
-use Rattle.tally.specs.Language.{Log, Outcome, goes, stops, Ran, if_then_else_}
+use Rattle.tally.specs.Language.{Log, Outcome, goes, stops, Ran, if_then_else_, pointWidth, contactWidth}
 use Rattle.shot.specs.declared.Shot.{Shot}
 use Rattle.tally.specs.declared.Conditions.{Conditions}
 use Rattle.roll.specs.declared.Ending.{Ending}
@@ -89,7 +89,12 @@ conditionsOf s = record {
 
 -- the log before the first look, with lists of nc and np doubles
 abbrev pub firstLog : BallState → ℕ → ℕ → Log
-firstLog landing nc np = record { steps = 0; contacts = record { room = nc / 20; records = [] }; points = record { room = np / 11; records = [] }; good = landing }
+firstLog landing nc np = record {
+  steps = 0;
+  contacts = record { room = nc / contactWidth; records = [] };
+  points = record { room = np / pointWidth; records = [] };
+  good = landing;
+}
 
 -- the run of an accepted call, over the course's looks
 unfoldable pub runOf : Shot → ℕ → ℕ → Tree (Ran Ending)

@@ -10,10 +10,11 @@ use Rattle.aero.specs.declared.BallModel.{BallModel}
 use Rattle.shot.specs.Tests.{stepPhysicsOk, ballOk, landingOk, inputTest}
 use Rattle.shot.specs.declared.Shot.{Shot}
 use Rattle.course.specs.Sheet.{answerOf}
+use Rattle.tally.specs.Language.{pointWidth, contactWidth}
 
 -- 8: "a list length isn't whole records (0 is whole)"
 unfoldable pub wholes : ℕ → ℕ → Bool
-wholes nc np = eqb (nc % 20) 0 && eqb (np % 11) 0
+wholes nc np = eqb (nc % contactWidth) 0 && eqb (np % pointWidth) 0
 
 -- the first test of a settle that fails, or 0: "in the order .. 8, 1 to 7"
 unfoldable pub refusalOf : List ℕ → Shot → ℕ → ℕ → ℕ

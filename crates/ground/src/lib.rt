@@ -21,10 +21,10 @@ use vector::DVec3;
 pub fn refusal(sheet: &[u8], shot: Shot, contacts: usize, points: usize) -> u32
     ensures { λ r. ⌜ r ≡ refusalOf (now (sheet .entry)) shot contacts points ⌝ }
 {
-    if contacts % 20 != 0 {
+    if contacts % tally::CONTACT_WIDTH != 0 {
         return 8;
     }
-    if points % 11 != 0 {
+    if points % tally::POINT_WIDTH != 0 {
         return 8;
     }
     let answer = course::check_sheet(sheet);
@@ -154,7 +154,7 @@ pub fn settle(sheet: &[u8], shot: Shot, contacts: &mut [f64], points: &mut [f64]
     if answer != 0 {
         return refused(answer);
     }
-    let mut index = [0u64; 290];
+    let mut index = [0u64; course::INDEX_WORDS];
     course::make_index(sheet, &mut index);
     settle_with(sheet, &index, shot, contacts, points)
 }

@@ -1,5 +1,5 @@
 -- Definitions. The line that the program settle prints (01, "Lists and the rest of the shop" and "Bench shots"), as bytes in ASCII.
-use Prim.Native.Nat.{ℕ}
+use Prim.Native.Nat.{ℕ, _*_}
 use mathlib.Core.Bool.{_&&_, cond}
 use mathlib.Core.List.{List, [], _∷_, _++_}
 use lib.Dec.{leb}
@@ -9,6 +9,7 @@ use Rattle.number.specs.Ops.{dec}
 use Rattle.ground.specs.declared.Settled.{Settled}
 use Rattle.state.specs.declared.Termination.{Termination}
 use Rattle.text.specs.Text.{decimalOf, wordOf}
+use Rattle.tally.specs.Language.{pointWidth, contactWidth}
 use Rattle.input.specs.Input.{settleInputOf}
 
 -- ---- words
@@ -56,7 +57,7 @@ nought = dec 0 1
 
 -- the line for the program's input, with 64 contacts and 640 points lent, all +0 before
 unfoldable pub lineOf : List ℕ → List ℕ
-lineOf input = shownOf (settleInputOf input (replicate 1280 nought) (replicate 7040 nought) .settled)
+lineOf input = shownOf (settleInputOf input (replicate (64 * contactWidth) nought) (replicate (640 * pointWidth) nought) .settled)
 
 -- how many bytes were written, and the list as it is then
 pub record Wrote : Type 0 where

@@ -45,8 +45,8 @@ fn put_settled(out: &mut [u8], s: Settled) -> usize
 pub fn write_line(input: &[u8], out: &mut [u8; 128]) -> usize
     ensures { λ r. ⌜ wrote r (now (out .exit)) ≡ writtenLine (now (input .entry)) (now (out .entry)) ⌝ }
 {
-    let mut contacts = [0.0; 1280];
-    let mut points = [0.0; 7040];
+    let mut contacts = [0.0; 64 * tally::CONTACT_WIDTH];
+    let mut points = [0.0; 640 * tally::POINT_WIDTH];
     let s = input::settle_input(input, &mut contacts, &mut points);
     put_settled(out, s)
 }

@@ -23,7 +23,10 @@ const TIME_EPS: f64 = 1e-9;
 const SAMPLE_INTERVAL: f64 = 0.01;
 
 // The numbers of a point.
-const POINT_WIDTH: usize = 11;
+pub const POINT_WIDTH: usize = 11;
+
+// The numbers of a contact.
+pub const CONTACT_WIDTH: usize = 20;
 
 // What stays the same throughout one settle.
 pub struct Conditions {

@@ -1,5 +1,5 @@
 -- `write_line` writes the line of the settle that the input asks for.
-use Prim.Native.Nat.{ℕ}
+use Prim.Native.Nat.{ℕ, _*_}
 use native.Mathlib.Nat.{zero-add}
 use mathlib.Core.Path.{_≡_, refl, ap, _∙_}
 use mathlib.Core.List.{List}
@@ -8,6 +8,7 @@ use lib.Ieee.{Float, ofBits, round, binary64}
 use borrow.Author.Needs.{needs}
 use Rattle.ground.specs.Settle.{Result, result}
 use Rattle.ground.specs.declared.Settled.{Settled}
+use Rattle.tally.specs.Language.{pointWidth, contactWidth}
 use Rattle.input.specs.Input.{settleInputOf}
 use Rattle.text.specs.Text.{Puts}
 use Rattle.line.specs.Line.{nought, shownOf, lineOf, wrote, writtenLine}
@@ -19,7 +20,8 @@ unfolding ofBits round
 zero = refl
 
 line-of : (input : List ℕ) {s : Settled} {cs ps : List Float}
-    → result s cs ps ≡ settleInputOf input (replicate 1280 (ofBits binary64 0)) (replicate 7040 (ofBits binary64 0)) → shownOf s ≡ lineOf input
+    → result s cs ps ≡ settleInputOf input (replicate (64 * contactWidth) (ofBits binary64 0)) (replicate (640 * pointWidth) (ofBits binary64 0))
+    → shownOf s ≡ lineOf input
 unfolding lineOf
 line-of input e = ap (λ (w : Result). shownOf (w .settled)) e ∙ rw zero
 
