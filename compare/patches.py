@@ -145,6 +145,8 @@ COUNTS = {
     "ground.rs": [
         ("fn find_root(f: impl Fn(f64) -> f64, lo: (f64, f64), hi: (f64, f64), guess: f64) -> f64 {\n",
          "fn find_root(f: impl Fn(f64) -> f64, lo: (f64, f64), hi: (f64, f64), guess: f64, shut: crate::added::Hit) -> f64 {\n", 1),
+        # paper 4: an evaluation is counted in find_root's own loop, as it is made
+        ("        let fx = f(x);\n", "        crate::added::evaluation(shut);\n        let fx = f(x);\n", 1),
         ("        if !(lo < mid && mid < hi) {\n            break;\n",
          "        if !(lo < mid && mid < hi) {\n            hit(shut);\n            return hi;\n", 1),
         ("        if !(lo < x && x < hi) {\n            x = mid;\n        }\n    }\n    hi\n",
@@ -240,5 +242,9 @@ PLANTS = {
     "contact-early": ("ground.rs", "                hit(crate::added::Hit::hop_flown);\n",
                       "                hit(crate::added::Hit::hop_flown);\n                if self.terrain.run().contact_room == contacts.len() { self.terrain.run().stop(20, crate::added::Hit::full_20_hop); }\n"),
     "limit-first": ("ground.rs", "            if t >= t_end - TIME_EPS {\n", "            self.terrain.run().due(crate::added::Hit::limit_23_hop);\n            if t >= t_end - TIME_EPS {\n"),
+    "evaluation-22": ("ground.rs", "        crate::added::evaluation(shut);\n        let fx = f(x);\n",
+                      "        let fx = f(x);\n        crate::added::evaluation(shut);\n"),
+    "evaluation-slide": ("ground.rs", "        crate::added::evaluation(shut);\n",
+                         "        if shut == crate::added::Hit::hop_shut_by_jump { crate::added::evaluation(shut); }\n"),
     "hold": ("ground.rs", "surface.mu_roll * G * n.y\n", "surface.mu_roll * G\n"),
 }

@@ -15,8 +15,9 @@ extern "C" {
  * max_time, max_impacts (0 to 64) and step_limit (u64), the ball (12), density, the landing (time, pos, vel, spin), 8 bytes a field, little-endian.
  * contacts: 20 doubles a record (time, pos, normal, surface number, vel_in, vel_out, spin_in, spin_out).
  * points: 11 doubles a record (time, pos, vel, spin, phase: 0 hop, 1 slide, 2 roll).
- * result, where it has room for 19, gets: answer; termination (0 none, 1 rest, 2 time, 3 impacts); contacts, points, steps; the final state
- * (time, pos, vel, spin); the rectangle (least x, greatest x, least z, greatest z). A longer result keeps its tail, a shorter one is untouched.
+ * result, where it has room for 20, gets: answer; termination (0 none, 1 rest, 2 time, 3 impacts); contacts, points, steps; the final state
+ * (time, pos, vel, spin); the rectangle (least x, greatest x, least z, greatest z); how many evaluations the root searches of its hops and slides made.
+ * A longer result keeps its tail, a shorter one is untouched.
  * Answers: 0, 12, 8, 1 to 7, 20 to 23. */
 uint32_t dimple_settle(const uint8_t *input, size_t input_len, double *contacts, size_t contacts_len,
                        double *points, size_t points_len, double *result, size_t result_len);

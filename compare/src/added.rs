@@ -53,6 +53,36 @@ pub fn take_hits() -> u128 {
     HITS.with(|b| b.replace(0))
 }
 
+/// Evaluations of a hop's searches and of a slide's.
+#[derive(Clone, Copy, Default)]
+pub struct Evaluations {
+    pub hop: u64,
+    pub slide: u64,
+}
+
+thread_local! {
+    static EVALUATIONS: Cell<Evaluations> = const { Cell::new(Evaluations { hop: 0, slide: 0 }) };
+}
+
+/// One evaluation of find_root; `shut` names the search that it belongs to.
+#[inline]
+pub fn evaluation(shut: Hit) {
+    EVALUATIONS.with(|e| {
+        let mut n = e.get();
+        if shut == Hit::slide_shut {
+            n.slide += 1;
+        } else {
+            n.hop += 1;
+        }
+        e.set(n);
+    });
+}
+
+/// Those made since the last call.
+pub fn take_evaluations() -> Evaluations {
+    EVALUATIONS.with(|e| e.replace(Evaluations::default()))
+}
+
 /// Carried by the unwinding that ends a run with 20 to 23.
 pub struct Stop(pub u32);
 

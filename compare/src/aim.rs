@@ -136,6 +136,7 @@ fn check(r: &mut Rng, seen: &mut Seen, input: &[u8], a: Asked, contacts_len: usi
             answer: 0,
             termination: 0,
             steps: 0,
+            evaluations: Default::default(),
             rest: [0.0; 10],
             rect: [0.0; 4],
             contacts: Vec::new(),

@@ -196,11 +196,25 @@ pub struct Counts {
     hits: Vec<u64>,
     cases: u64,
     steps: u64,
+    hop_evaluations: u64,
+    slide_evaluations: u64,
+    with_hop: u64,
+    with_slide: u64,
 }
 
 impl Default for Counts {
     fn default() -> Self {
-        Self { answers: [0; 128], terminations: [0; 4], hits: vec![0; 128], cases: 0, steps: 0 }
+        Self {
+            answers: [0; 128],
+            terminations: [0; 4],
+            hits: vec![0; 128],
+            cases: 0,
+            steps: 0,
+            hop_evaluations: 0,
+            slide_evaluations: 0,
+            with_hop: 0,
+            with_slide: 0,
+        }
     }
 }
 
@@ -214,6 +228,10 @@ impl Counts {
     fn count(&mut self, out: &Outcome) {
         self.cases += 1;
         self.steps += out.steps;
+        self.hop_evaluations += out.evaluations.hop;
+        self.slide_evaluations += out.evaluations.slide;
+        self.with_hop += u64::from(out.evaluations.hop > 0);
+        self.with_slide += u64::from(out.evaluations.slide > 0);
         self.answers[out.answer as usize] += 1;
         if out.answer == 0 {
             self.terminations[out.termination as usize] += 1;
@@ -230,6 +248,10 @@ impl Counts {
         }
         self.cases += o.cases;
         self.steps += o.steps;
+        self.hop_evaluations += o.hop_evaluations;
+        self.slide_evaluations += o.slide_evaluations;
+        self.with_hop += o.with_hop;
+        self.with_slide += o.with_slide;
     }
     fn print_answers(&self) {
         println!("cases {} steps {}", self.cases, self.steps);
@@ -239,6 +261,14 @@ impl Counts {
     }
     fn print(&self) {
         self.print_answers();
+        let share = |n: u64| 100.0 * n as f64 / self.cases.max(1) as f64;
+        println!(
+            "evaluations of hops {} (in {:.2}% of the calls), of slides {} (in {:.2}%)",
+            self.hop_evaluations,
+            share(self.with_hop),
+            self.slide_evaluations,
+            share(self.with_slide)
+        );
         println!("branches (runs that reached each):");
         for (i, name) in HIT_NAMES.iter().enumerate() {
             println!("  {name:26} {}", self.hits[i]);
@@ -417,8 +447,8 @@ fn replay_mode(file: &str) {
     for n in 0..count {
         let len = word(at) as usize;
         let w = |i: usize| word(at + 8 + 8 * i);
-        let input = &bytes[at + 8 + 8 * 24..at + 8 + 8 * 24 + w(0) as usize];
-        assert_eq!(len, 8 * 24 + input.len());
+        let input = &bytes[at + 8 + 8 * 25..at + 8 + 8 * 25 + w(0) as usize];
+        assert_eq!(len, 8 * 25 + input.len());
         let mut contacts = vec![1.0; w(1) as usize];
         let mut points = vec![1.0; w(2) as usize];
         let mut result = [1.0; RESULT];
@@ -430,7 +460,8 @@ fn replay_mode(file: &str) {
         }
         let mut got = vec![u64::from(answer)];
         got.extend(result[1..5].iter().map(|x| *x as u64));
-        got.extend(result[5..].iter().map(|x| x.to_bits()));
+        got.push(result[19] as u64);
+        got.extend(result[5..19].iter().map(|x| x.to_bits()));
         got.extend([a, b]);
         if let Some(i) = (0..got.len()).find(|&i| got[i] != w(3 + i)) {
             different("replay", format!("entry {n}, word {}: {:x} expected {:x}", 3 + i, got[i], w(3 + i)), input);

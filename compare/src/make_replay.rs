@@ -49,6 +49,7 @@ impl Entry {
             o.contacts.len() as u64,
             o.points.len() as u64,
             o.steps,
+            o.evaluations.hop + o.evaluations.slide,
         ];
         words.extend(o.rest.iter().chain(&o.rect).map(|x| x.to_bits()));
         words.extend([a, b]);

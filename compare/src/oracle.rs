@@ -1,7 +1,7 @@
 //! The whole calls of document 01 over dimple's own physics: input tests 12, 8, 1 to 7 and 11,
 //! the course's sheet, and settle, step, impact and height as callers see them.
 
-use crate::added::{Hit, Run, Stop, coord_ok, hit, state_ok};
+use crate::added::{Evaluations, Hit, Run, Stop, coord_ok, hit, state_ok, take_evaluations};
 use crate::aero::BallModel;
 use crate::glam::DVec3;
 use crate::ground::leaf::{ball_of, phase_number, put_state, state_of};
@@ -13,7 +13,7 @@ use std::panic::{AssertUnwindSafe, catch_unwind};
 
 pub const CONTACT: usize = 20;
 pub const POINT: usize = 11;
-pub const RESULT: usize = 19;
+pub const RESULT: usize = 20;
 pub const HEAD: usize = 240;
 pub const MOST: usize = 34_048;
 
@@ -165,6 +165,7 @@ pub struct Outcome {
     pub answer: u32,
     pub termination: u32,
     pub steps: u64,
+    pub evaluations: Evaluations,
     pub rest: [f64; 10],
     pub rect: [f64; 4],
     pub contacts: Vec<[f64; CONTACT]>,
@@ -178,6 +179,7 @@ impl Outcome {
             answer,
             termination: 0,
             steps: 0,
+            evaluations: Evaluations::default(),
             rest: [0.0; 10],
             rect: [0.0; 4],
             contacts: Vec::new(),
@@ -268,6 +270,7 @@ pub fn settle_untested(f: &[f64; 30], max_impacts: u64, course: Course) -> Outco
         max_time: f[4],
     };
     let ball = ball_of(&f[7..19]);
+    take_evaluations();
     let (answer, termination, rest) = ended(
         &physics.terrain.run,
         catch_unwind(AssertUnwindSafe(|| physics.settle(&landing, &ball, f[19]))).map(|r| (r.termination, r.rest)),
@@ -279,6 +282,7 @@ pub fn settle_untested(f: &[f64; 30], max_impacts: u64, course: Course) -> Outco
         answer,
         termination,
         steps: run.steps.get(),
+        evaluations: take_evaluations(),
         rest: state,
         rect: run.rect.get().unwrap_or([0.0; 4]),
         contacts: run.contacts.borrow().iter().map(contact_record).collect(),
@@ -335,6 +339,7 @@ pub fn write_settle(out: &Outcome, contacts: &mut [f64], points: &mut [f64], res
         result[4] = out.steps as f64;
         result[5..15].copy_from_slice(&out.rest);
         result[15..19].copy_from_slice(&out.rect);
+        result[19] = (out.evaluations.hop + out.evaluations.slide) as f64;
     }
 }
 

@@ -65,7 +65,7 @@ pub fn run() {
             let bytes = shot(patches, dt).bytes();
             let out = dimple_ref::oracle::settle(&bytes, CONTACTS, POINTS, false);
             let steps = out.steps as f64;
-            let (mut c, mut p, mut r) = (vec![0.0; CONTACTS], vec![0.0; POINTS], vec![0.0; 19]);
+            let (mut c, mut p, mut r) = (vec![0.0; CONTACTS], vec![0.0; POINTS], vec![0.0; 20]);
             let lib = best(|| {
                 crate::lib_settle(&bytes, &mut c, &mut p, &mut r);
             });

@@ -1,6 +1,7 @@
 -- One turn of the crossing search, and one of the root search.
 use Prim.Native.Nat.{ℕ, suc, _+_, _-_, _<_, _≤_}
-use mathlib.Core.Path.{_≡_, ap, _∙_}
+use native.Mathlib.Omega.{arith}
+use mathlib.Core.Path.{_≡_, refl, ap, _∙_}
 use mathlib.Core.Bool.{true, false}
 use mathlib.Core.Option.{some}
 use lib.Ieee.{Float, le}
@@ -8,9 +9,10 @@ use Rattle.number.specs.Ops.{dec}
 use Rattle.search.specs.Search.{inBracket, narrowed, rootFrom, afterStep, root-turn, root-ended}
 use Rattle.search.specs.declared.Bracket.{Bracket}
 use Rattle.search.specs.declared.Search.{Search}
-use Rattle.look.specs.Tree.{Oracle, exec, did, Did}
+use Rattle.look.specs.Tree.{Oracle, bind, exec, did, Did}
 use Rattle.look.specs.declared.Rect.{Rect}
-use Rattle.tally.specs.Language.{M, Ran, ran, Log, Outcome, goes, stops, inM}
+use Rattle.tally.specs.Language.{M, Ran, ran, Log, Outcome, goes, stops, pure, inM, _>>=_, evaluated, countEvaluation, evaluate}
+use Rattle.tally.specs.Contracts.{Looks, Searches}
 use Rattle.tally.specs.Words.{went, halted}
 use Rattle.arrival.specs.Arrival.{subStep, crossingFrom}
 
@@ -29,17 +31,47 @@ module _ (o : Oracle) (q : Rect) (f : Float → M Float) (len fEnd : Float) (i :
   unfolding crossingFrom
   crossing-on h t = rw e (went o q (subStep f len fEnd i b) _ l c h (rw t))
 
-module _ (o : Oracle) (q : Rect) (f : Float → M Float) (s : Search) (l : Log) {n : ℕ} {x : Outcome Float} {q' : Rect}
-    (p : 0 < n) (c : did (ran x l) q' ≡ exec o q (f (inBracket s) l)) where
-  pub root-off : {k : ℕ} → x ≡ stops k → did (ran (stops k) l) q' ≡ exec o q (rootFrom inM f n s l)
-  root-off h = halted o q (f (inBracket s)) _ l c h ∙ ap (λ (m : M Float). exec o q (m l)) (root-turn inM f s n p)
+-- n of 200 evaluations are made, and counted, and the search goes on from s
+abbrev pub searchOn : (Float → M Float) → ℕ → Search → M Float
+searchOn f n s l = rootFrom inM (evaluate f) (200 - n) s (evaluated n l)
 
-  pub root-on : {y : Float} {d : Did (Ran Float)} → x ≡ goes y → d ≡ exec o q' (afterStep inM (rootFrom inM f (n - 1)) (narrowed s (inBracket s) y) l)
-      → d ≡ exec o q (rootFrom inM f n s l)
-  root-on h g = went o q (f (inBracket s)) _ l c h g ∙ ap (λ (m : M Float). exec o q (m l)) (root-turn inM f s n p)
+-- the search of which none is made is the whole
+pub evaluated-0 : (l : Log) → evaluated 0 l ≡ l
+evaluated-0 l = ap (λ (n : ℕ). record { steps = l .steps; evaluations = n; contacts = l .contacts; points = l .points; good = l .good }) (omega arith)
 
--- no evaluations left
-pub root-out : (o : Oracle) (q : Rect) (f : Float → M Float) (s : Search) (l : Log) (n : ℕ) → n ≤ 0
-    → did (ran (goes (s .bracket .hi)) l) q ≡ exec o q (rootFrom inM f n s l)
+pub ends-pure : {A : Type 0} (o : Oracle) (q : Rect) (a : A) (l : Log) → did (ran (goes a) l) q ≡ exec o q (pure a l)
 unfolding exec
-root-out o q f s l n h = ap (λ (m : M Float). exec o q (m l)) (root-ended inM f s n h)
+ends-pure o q a l = refl
+
+-- a call that only looks makes none
+pub unsearched : {A : Type 0} (o : Oracle) (q : Rect) (m : M A) {x : Outcome A} {q' : Rect} → Looks o q m x q' → Searches o q m x 0 q'
+unsearched o q m h l = rw (evaluated-0 l) (h l)
+
+evaluated-1 : (n : ℕ) (l : Log) → evaluated (n + 1) l ≡ evaluated 1 (evaluated n l)
+evaluated-1 n l = ap (λ (k : ℕ). record { steps = l .steps; evaluations = k; contacts = l .contacts; points = l .points; good = l .good }) (omega arith)
+
+-- one evaluation more, counted, and what follows from it
+module _ (o : Oracle) (q : Rect) (f : Float → M Float) (s : Search) (l : Log) (n : ℕ) {x : Outcome Float} {q' : Rect}
+    (p : n < 200) (c : Looks o q (f (inBracket s)) x q') where
+  counted : did (ran x (evaluated (n + 1) l)) q' ≡ exec o q (evaluate f (inBracket s) (evaluated n l))
+  unfolding _>>=_ bind countEvaluation
+  counted = c (evaluated (n + 1) l) ∙ ap (λ (k : Log). exec o q (f (inBracket s) k)) (evaluated-1 n l)
+
+  pub root-off : {k : ℕ} → x ≡ stops k → did (ran (stops k) (evaluated (n + 1) l)) q' ≡ exec o q (searchOn f n s l)
+  root-off h =
+      halted o q (evaluate f (inBracket s)) _ (evaluated n l) counted h
+      ∙ ap (λ (m : M Float). exec o q (m (evaluated n l))) (root-turn inM (evaluate f) s (200 - n) (omega (arith, p)))
+
+  pub root-on : {y : Float} {d : Did (Ran Float)} → x ≡ goes y
+      → d ≡ exec o q' (afterStep inM (rootFrom inM (evaluate f) (200 - (n + 1))) (narrowed s (inBracket s) y) (evaluated (n + 1) l))
+      → d ≡ exec o q (searchOn f n s l)
+  root-on h g =
+      let m : 200 - n - 1 ≡ 200 - (n + 1) = omega arith in
+      went o q (evaluate f (inBracket s)) _ (evaluated n l) counted h (rw m g)
+      ∙ ap (λ (m : M Float). exec o q (m (evaluated n l))) (root-turn inM (evaluate f) s (200 - n) (omega (arith, p)))
+
+-- 200 are made
+pub root-out : (o : Oracle) (q : Rect) (f : Float → M Float) (s : Search) (l : Log) (n : ℕ) → 200 ≤ n
+    → did (ran (goes (s .bracket .hi)) (evaluated n l)) q ≡ exec o q (searchOn f n s l)
+unfolding exec
+root-out o q f s l n h = ap (λ (m : M Float). exec o q (m (evaluated n l))) (root-ended inM (evaluate f) s (200 - n) (omega (arith, h)))

@@ -14,7 +14,7 @@ use Rattle.rk4.specs.declared.State.{State}
 use Rattle.flight.specs.Arc.{hermiteOf, parabolaOf, dropTime}
 use Rattle.search.specs.Search.{findRoot}
 use Rattle.search.specs.declared.Bracket.{Bracket}
-use Rattle.tally.specs.Language.{M, _>>=_, if_then_else_, pure, look, inM}
+use Rattle.tally.specs.Language.{M, _>>=_, if_then_else_, pure, look, evaluate, inM}
 use Rattle.arrival.specs.declared.Arc.{Arc}
 
 -- ground.rs, fn hop, the closures passed as `arc`: the state tau into the step; with air the Hermite interpolant, without it the parabola
@@ -80,7 +80,7 @@ crossingTime arc b = do
   fHi ← endValue arc b
   let last = arcOf arc arc.h .pos
   end ← look last.x last.z
-  findRoot inM (clearanceAt arc) (endingAt b fHi) (guessIn arc b end.height)
+  findRoot inM (evaluate (clearanceAt arc)) (endingAt b fHi) (guessIn arc b end.height)
 
 -- the arrival: the arc's state with its y on the ground
 unfoldable pub placed : State → Float → Float → DVec3 → BallState

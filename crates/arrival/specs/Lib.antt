@@ -4,3 +4,4 @@ pub mod RootSearch
 pub mod Eighths
 pub mod FirstCrossing
 pub mod ArrivalTime
+pub mod Evaluations

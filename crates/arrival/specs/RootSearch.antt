@@ -1,4 +1,4 @@
--- Statements. The search in the hop: at most 200 looks, and a time within its bracket. Assumes nothing.
+-- Statements. The search in the hop: at most 200 evaluations and as many looks, and a time within its bracket. Assumes nothing.
 use Prim.Native.Nat.{ℕ, suc, _+_, _≤_}
 use native.Mathlib.Omega.{arith}
 use mathlib.Core.Bool.{cond}
@@ -15,44 +15,78 @@ use Rattle.look.specs.Tree.{Oracle, run, looks}
 use Rattle.search.specs.Search.{findRoot}
 use Rattle.search.specs.Evaluations.{Counts, Every, Ends, Within, every-at-most-200, every-within}
 use Rattle.search.specs.declared.Bracket.{Bracket}
-use Rattle.tally.specs.Language.{M, Log, Outcome, goes, stops, pure, look, inM, _>>=_}
-use Rattle.tally.specs.Triple.{Past, spot, After, Triple, of-run, of-every-run, t-any, t-after, t-bind, t-pure, t-look}
+use Rattle.tally.specs.Language.{M, Log, Outcome, goes, stops, pure, look, evaluate, inM, _>>=_}
+use Rattle.tally.specs.Triple.{Past, spot, After, Triple, of-run, of-every-run, t-any, t-after, t-bind, t-pure, t-look, t-evaluation}
 use Rattle.arrival.specs.declared.Arc.{Arc}
 use Rattle.arrival.specs.Arrival.{clearance, clearanceAt, arcOf, endValue, guessIn, endingAt, crossingTime}
 
--- ---- looks
+-- ---- how many looks, and how many evaluations
 
--- n spots looked at, or fewer
-abbrev Few : ℕ → Past → Type 0
-Few n w = length (w .spots) ≤ n
+module _ (size : Past → ℕ) where
+  -- it grows by at most n, on every course and whatever went before
+  abbrev pub GrowsBy : {A : Type 0} → ℕ → M A → Type 0
+  GrowsBy n m = (o : Oracle) (k : ℕ) → Triple o (λ w. size w ≤ k) m (λ _ w. size w ≤ n + k) (λ _ w. size w ≤ n + k)
 
--- at most n looks more, on every course and whatever was looked at before
+  pub grows-pure : {A : Type 0} (n : ℕ) (a : A) → GrowsBy n (pure a)
+  grows-pure n a o k = t-pure (λ w h. omega (arith, h))
+
+  pub grows-then : {A B : Type 0} (i n : ℕ) (x : M A) (k : A → M B) → GrowsBy i x → ((a : A) → GrowsBy n (k a)) → GrowsBy (i + n) (x >>= k)
+  grows-then i n x k h g o j =
+      t-bind (t-after (λ a w p. p) (λ l w p. omega (arith, p)) (h o j)) (λ a. t-after (λ b w p. omega (arith, p)) (λ l w p. omega (arith, p)) (g a o (i + j)))
+
+  -- of find_root's evaluations, each of which adds at most one
+  pub grows-next : {A B : Type 0} (n : ℕ) (x : M A) (k : A → M B) → GrowsBy 1 x → ((a : A) → GrowsBy n (k a)) → GrowsBy (suc n) (x >>= k)
+  grows-next n x k h g o j =
+      t-after (λ b w p. omega (arith, p)) (λ l w p. omega (arith, p)) (grows-then 1 n x k h g o j)
+
+  abbrev pub counts-grown : Counts inM
+  counts-grown = record { atMost = GrowsBy; of-pure = grows-pure; of-bind = grows-next }
+
+-- at most n looks more
 abbrev pub LooksAtMost : {A : Type 0} → ℕ → M A → Type 0
-LooksAtMost n m = (o : Oracle) (k : ℕ) → Triple o (Few k) m (λ _. Few (n + k)) (λ _. Few (n + k))
+LooksAtMost = GrowsBy (λ w. length (w .spots))
 
-looks-pure : {A : Type 0} (n : ℕ) (a : A) → LooksAtMost n (pure a)
-looks-pure n a o k = t-pure (λ w h. omega (arith, h))
-
-looks-then : {A B : Type 0} (n : ℕ) (x : M A) (k : A → M B) → LooksAtMost 1 x → ((a : A) → LooksAtMost n (k a)) → LooksAtMost (suc n) (x >>= k)
-looks-then n x k h g o j =
-    t-bind (t-after (λ a w i. i) (λ i w q. omega (arith, q)) (h o j)) (λ a. t-after (λ b w i. omega (arith, i)) (λ i w q. omega (arith, q)) (g a o (1 + j)))
-
-abbrev counts-looks : Counts inM
-counts-looks = record { atMost = LooksAtMost; of-pure = looks-pure; of-bind = looks-then }
+-- at most n evaluations more
+abbrev pub EvaluatesAtMost : {A : Type 0} → ℕ → M A → Type 0
+EvaluatesAtMost = GrowsBy (λ w. w .log .evaluations)
 
 -- a look at a spot that fails its test is not made
 look-once : (x z : Float) → LooksAtMost 1 (look x z)
 look-once x z o k = t-look x z (λ w h _. rw (length-append (w .spots) (spot x z ∷ [])) (omega (arith, h))) (λ w h _. omega (arith, h))
 
+pub look-evaluates : (x z : Float) → EvaluatesAtMost 0 (look x z)
+look-evaluates x z o k = t-look x z (λ w h _. omega (arith, h)) (λ w h _. omega (arith, h))
+
 clearance-once : (p : DVec3) → LooksAtMost 1 (clearance p)
 unfolding clearance
-clearance-once p = looks-then 0 (look (p .x) (p .z)) _ (look-once (p .x) (p .z)) (λ s. looks-pure 0 _)
+clearance-once p = grows-then (λ w. length (w .spots)) 1 0 (look (p .x) (p .z)) _ (look-once (p .x) (p .z)) (λ s. grows-pure (λ w. length (w .spots)) 0 _)
 
--- 01: "at most 200 evaluations"
-pub at-most-200-looks : (arc : Arc) (b : Bracket) (guess : Float) (o : Oracle) (l : Log) → length (looks o (findRoot inM (clearanceAt arc) b guess l)) ≤ 200
-at-most-200-looks arc b guess o l =
-    let few = every-at-most-200 counts-looks (clearanceAt arc) (λ tau. unfold clearanceAt in clearance-once (arcOf arc tau .pos)) b guess o 0 in
-    of-every-run o few l (omega arith)
+pub clearance-evaluates : (p : DVec3) → EvaluatesAtMost 0 (clearance p)
+unfolding clearance
+clearance-evaluates p =
+    grows-then (λ w. w .log .evaluations) 0 0 (look (p .x) (p .z)) _ (look-evaluates (p .x) (p .z)) (λ s. grows-pure (λ w. w .log .evaluations) 0 _)
+
+module _ (arc : Arc) where
+  -- one evaluation of the hop's search: a look, and one evaluation counted
+  evaluated-looks : (tau : Float) → LooksAtMost 1 (evaluate (clearanceAt arc) tau)
+  unfolding clearanceAt
+  evaluated-looks tau o k = t-bind (t-evaluation (λ w h. h)) (λ _. clearance-once (arcOf arc tau .pos) o k)
+
+  evaluated-counts : (tau : Float) → EvaluatesAtMost 1 (evaluate (clearanceAt arc) tau)
+  unfolding clearanceAt
+  evaluated-counts tau o k =
+      t-bind (t-evaluation (λ w h. omega (arith, h)))
+      (λ _. t-after (λ a w p. omega (arith, p)) (λ i w p. omega (arith, p)) (clearance-evaluates (arcOf arc tau .pos) o (1 + k)))
+
+  -- 01: "at most 200 evaluations"; each is one look
+  pub at-most-200-looks : (b : Bracket) (guess : Float) (o : Oracle) (l : Log) → length (looks o (findRoot inM (evaluate (clearanceAt arc)) b guess l)) ≤ 200
+  at-most-200-looks b guess o l =
+      let few = every-at-most-200 (counts-grown (λ w. length (w .spots))) (evaluate (clearanceAt arc)) evaluated-looks b guess o 0 in
+      of-every-run o few l (omega arith)
+
+  -- 02, paper 4: "how many evaluations it made, at most 200"
+  pub search-at-most-200 : (b : Bracket) (guess : Float) → EvaluatesAtMost 200 (findRoot inM (evaluate (clearanceAt arc)) b guess)
+  search-at-most-200 = every-at-most-200 (counts-grown (λ w. w .log .evaluations)) (evaluate (clearanceAt arc)) evaluated-counts
 
 -- ---- the time
 
@@ -89,8 +123,8 @@ every-inM = record { holds = Gives; of-pure = gives-pure; of-bind = gives-bind }
 
 -- 01: "the answer within the bracket"
 pub time-within : (arc : Arc) (b : Bracket) (guess : Float) → Ends b → T (fits binary64 guess)
-    → Gives (Within (b .lo) (b .hi)) (findRoot inM (clearanceAt arc) b guess)
-time-within arc = every-within every-inM (clearanceAt arc)
+    → Gives (Within (b .lo) (b .hi)) (findRoot inM (evaluate (clearanceAt arc)) b guess)
+time-within arc = every-within every-inM (evaluate (clearanceAt arc))
 
 clamp-fits : (x lo hi : Float) → T (fits binary64 x) → T (fits binary64 lo) → T (fits binary64 hi) → T (fits binary64 (clampOf x lo hi))
 unfolding clampOf

@@ -1,12 +1,13 @@
 // Where a hop step meets the ground: clearance, first_crossing, find_root and hop_arrival of ground.rs.
 ghost use mathlib.Core.Path.{_≡_};
+ghost use Prim.Native.Nat.{_+_, _≤_};
 ghost use Rattle.course.specs.Sheet.{courseOf};
 ghost use Rattle.course.specs.Index.{Ready};
 ghost use Rattle.search.specs.Search.{findRoot};
-ghost use Rattle.tally.specs.Language.{inM};
+ghost use Rattle.tally.specs.Language.{inM, evaluate};
 ghost use Rattle.tally.specs.Contracts.{Looks};
 ghost use Rattle.arrival.specs.Arrival.{arcOf, clearance as clearanceOf, clearanceAt, advanced, atStart, subStep, firstCrossing, endValue, guessIn, endingAt, crossingTime, placed, hopArrival};
-ghost use Rattle.arrival.specs.Contracts.{valueBy, subStepBy, crossingBy, arrivalBy, Clears, Arrives};
+ghost use Rattle.arrival.specs.Contracts.{valueBy, subStepBy, crossingBy, Finds, Meets, Clears, Arrives};
 use look::Look;
 use look::Rect;
 use rk4::State;
@@ -209,42 +210,52 @@ fn first_crossing(
 
 // ---- the root in the bracket
 
-fn find_root(sheet: &[u8], index: &[u64], rect: Rect, arc: Arc, b: Bracket, guess: f64) -> ValueOut
+// The root, or a spot that failed its test; and the evaluations made, one stopped by its spot's test among them.
+pub struct RootOut {
+    pub what: Value,
+    pub evaluations: u64,
+    pub rect: Rect,
+}
+
+fn find_root(sheet: &[u8], index: &[u64], rect: Rect, arc: Arc, b: Bracket, guess: f64) -> RootOut
     requires { ⌜ Ready (now sheet) (now index) ⌝ }
-    ensures { λ r. ⌜ Looks (courseOf (now (sheet .entry))) rect (findRoot inM (clearanceAt arc) b guess) (valueBy (r .what)) (r .rect) ⌝ }
+    ensures { λ r. ⌜ Finds (courseOf (now (sheet .entry))) rect (findRoot inM (evaluate (clearanceAt arc)) b guess) r ⌝ }
 {
     let mut s = search::start_search(b, guess);
     let mut q = rect;
-    let mut left = ROOT_MAX_ITER;
-    while 0 < left {
+    let mut made: u64 = 0;
+    while made < ROOT_MAX_ITER {
         let x = search::in_bracket(s);
+        made += 1;
         let at = clearance_at(sheet, index, q, arc, x);
         let p = at.rect;
         let what = at.what;
         let Value::At(fx) = what else {
-            return ValueOut {
+            return RootOut {
                 what: Value::Off,
+                evaluations: made,
                 rect: p,
             };
         };
         let step = search::narrow(s, x, fx);
         match step {
             RootStep::Found(root) => {
-                return ValueOut {
+                return RootOut {
                     what: Value::At(root),
+                    evaluations: made,
                     rect: p,
                 };
             }
             RootStep::Next(n) => {
                 s = n;
                 q = p;
-                left -= 1;
             }
         }
     }
     let last = s.bracket;
-    ValueOut {
+    RootOut {
         what: Value::At(last.hi),
+        evaluations: made,
         rect: q,
     }
 }
@@ -299,16 +310,17 @@ fn ending_at(b: Bracket, f_hi: f64) -> Bracket
 }
 
 // The time into the step of the crossing in the bracket.
-fn crossing_time(sheet: &[u8], index: &[u64], rect: Rect, arc: Arc, b: Bracket) -> ValueOut
+fn crossing_time(sheet: &[u8], index: &[u64], rect: Rect, arc: Arc, b: Bracket) -> RootOut
     requires { ⌜ Ready (now sheet) (now index) ⌝ }
-    ensures { λ r. ⌜ Looks (courseOf (now (sheet .entry))) rect (crossingTime arc b) (valueBy (r .what)) (r .rect) ⌝ }
+    ensures { λ r. ⌜ Finds (courseOf (now (sheet .entry))) rect (crossingTime arc b) r ⌝ }
 {
     let bound = end_value(sheet, index, rect, arc, b);
     let q = bound.rect;
     let what = bound.what;
     let Value::At(f_hi) = what else {
-        return ValueOut {
+        return RootOut {
             what: Value::Off,
+            evaluations: 0,
             rect: q,
         };
     };
@@ -318,8 +330,9 @@ fn crossing_time(sheet: &[u8], index: &[u64], rect: Rect, arc: Arc, b: Bracket) 
     let p = seen.rect;
     let under = seen.what;
     let Look::Saw(end) = under else {
-        return ValueOut {
+        return RootOut {
             what: Value::Off,
+            evaluations: 0,
             rect: p,
         };
     };
@@ -337,6 +350,7 @@ pub enum Arrival {
 
 pub struct ArrivalOut {
     pub how: Arrival,
+    pub evaluations: u64,
     pub rect: Rect,
 }
 
@@ -368,7 +382,7 @@ fn hop_arrival(
     spin: DVec3,
 ) -> ArrivalOut
     requires { ⌜ Ready (now sheet) (now index) ⌝ }
-    ensures { λ r. ⌜ Looks (courseOf (now (sheet .entry))) rect (hopArrival arc t end spin) (arrivalBy (r .how)) (r .rect) ⌝ }
+    ensures { λ r. ⌜ Meets (courseOf (now (sheet .entry))) rect arc t end spin r ⌝ }
 {
     let first = clearance_at(sheet, index, rect, arc, 0.0);
     let q0 = first.rect;
@@ -376,6 +390,7 @@ fn hop_arrival(
     let Value::At(f0) = what else {
         return ArrivalOut {
             how: Arrival::Off,
+            evaluations: 0,
             rect: q0,
         };
     };
@@ -385,10 +400,12 @@ fn hop_arrival(
     match how {
         Crossing::Off => ArrivalOut {
             how: Arrival::Off,
+            evaluations: 0,
             rect: q1,
         },
         Crossing::Nothing => ArrivalOut {
             how: Arrival::Nothing,
+            evaluations: 0,
             rect: q1,
         },
         Crossing::At(b) => {
@@ -398,6 +415,7 @@ fn hop_arrival(
             let Value::At(tau) = time else {
                 return ArrivalOut {
                     how: Arrival::Off,
+                    evaluations: root.evaluations,
                     rect: q2,
                 };
             };
@@ -409,12 +427,14 @@ fn hop_arrival(
             let Look::Saw(ground) = under else {
                 return ArrivalOut {
                     how: Arrival::Off,
+                    evaluations: root.evaluations,
                     rect: q3,
                 };
             };
             let arrival = place(s, t + tau, ground.height, spin);
             ArrivalOut {
                 how: Arrival::At(arrival),
+                evaluations: root.evaluations,
                 rect: q3,
             }
         }
@@ -455,13 +475,14 @@ pub fn arrive(
     spin: DVec3,
 ) -> Arrived
     requires { ⌜ Ready (now sheet) (now index) ⌝ }
+    requires { ⌜ tally .evaluations + 200 ≤ 18446744073709551615 ⌝ }
     ensures { λ r. ⌜ Arrives (courseOf (now (sheet .entry))) tally arc t end spin r ⌝ }
 {
     let rect = tally.rect;
     let met = hop_arrival(sheet, index, rect, arc, t, end, spin);
     let wider = met.rect;
     let how = met.how;
-    let after = tally::with_rect(tally, wider);
+    let after = tally::with_search(tally, met.evaluations, wider);
     match how {
         Arrival::Off => Arrived::Off(after),
         Arrival::Nothing => Arrived::Nothing(after),

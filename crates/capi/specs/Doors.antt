@@ -20,15 +20,15 @@ use Rattle.input.specs.Input.{settleInputOf}
 abbrev pub rectFields : Rect → List Float
 rectFields r = r .«x_lo» ∷ r .«x_hi» ∷ r .«z_lo» ∷ r .«z_hi» ∷ []
 
--- answer; termination (0 none, 1 rest, 2 time, 3 impacts); contacts, points, steps; the final state (10); the rectangle (4)
+-- answer; termination (0 none, 1 rest, 2 time, 3 impacts); contacts, points, steps; the final state (10); the rectangle (4); evaluations
 abbrev pub resultFields : Settled → List Float
 resultFields s =
     wholeOf (s .answer) ∷ wholeOf (terminationNumber (s .termination)) ∷ wholeOf (s .contacts) ∷ wholeOf (s .points) ∷ wholeOf (s .steps)
-    ∷ (stateFields (s .rest) ++ rectFields (s .rect))
+    ∷ (stateFields (s .rest) ++ (rectFields (s .rect) ++ (wholeOf (s .evaluations) ∷ [])))
 
--- a list with room for 19 gets the result and keeps its tail; a shorter one is untouched
+-- a list with room for 20 gets the result and keeps its tail; a shorter one is untouched
 unfoldable pub reported : Settled → List Float → List Float
-reported s l = cond (leb 19 (length l)) (written l 0 (resultFields s)) l
+reported s l = cond (leb 20 (length l)) (written l 0 (resultFields s)) l
 
 -- ---- an answer and the lists as they are then
 

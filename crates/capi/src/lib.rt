@@ -16,11 +16,11 @@ use ground::ImpactOut;
 use ground::Settled;
 use ground::StepOut;
 
-// The 19 doubles of a settle's result, if there is room for them.
+// The 20 doubles of a settle's result, if there is room for them.
 fn write_result(result: &mut [f64], s: Settled)
     ensures { λ _. ⌜ now (result .exit) ≡ reported s (now (result .entry)) ⌝ }
 {
-    if result.len() < 19 {
+    if result.len() < 20 {
         return;
     }
     let termination = s.termination;
@@ -49,6 +49,7 @@ fn write_result(result: &mut [f64], s: Settled)
         rect.x_hi,
         rect.z_lo,
         rect.z_hi,
+        fields::whole(s.evaluations),
     ];
     fields::put(result, 0, &rec);
 }

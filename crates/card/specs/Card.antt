@@ -55,7 +55,16 @@ textOf w = headingLine (w .settled .termination) ++ linesOf (w .contacts) (w .se
 
 -- "30 when the lent page is too short for all lines .. lists and the rest of the result are the run's"
 abbrev pub tooShort : Settled → Settled
-tooShort s = record { answer = 30; termination = s .termination; contacts = s .contacts; points = s .points; steps = s .steps; rest = s .rest; rect = s .rect }
+tooShort s = record {
+  answer = 30;
+  termination = s .termination;
+  contacts = s .contacts;
+  points = s .points;
+  steps = s .steps;
+  evaluations = s .evaluations;
+  rest = s .rest;
+  rect = s .rect;
+}
 
 -- all that a call gives: the result, both lists, the page
 pub record Carded : Type 0 where

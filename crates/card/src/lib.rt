@@ -77,6 +77,7 @@ fn page_too_short(s: Settled) -> Settled
         contacts: s.contacts,
         points: s.points,
         steps: s.steps,
+        evaluations: s.evaluations,
         rest,
         rect,
     }

@@ -1,5 +1,5 @@
 -- From the tests and the run to what the caller sees.
-use Prim.Native.Nat.{ℕ, _/_, zero-le}
+use Prim.Native.Nat.{ℕ, _/_, _≤_, zero-le}
 use native.Mathlib.Omega.{arith}
 use mathlib.Core.Path.{_≡_, refl, ap, _∙_}
 use mathlib.Core.Bool.{Bool, true, false, not}
@@ -26,6 +26,7 @@ use Rattle.ground_phase.specs.declared.RunOut.{RunOut}
 use Rattle.ground.specs.Tests.{refusalOf, stepTest, impactTest}
 use Rattle.ground.specs.Settle.{result, reportOf, conditionsOf, runOf, settleOf}
 use Rattle.ground.specs.Contracts.{settledBy}
+use Rattle.ground.specs.Passed.{settle-limit}
 use Rattle.surface.specs.declared.GroundSample.{GroundSample}
 use Rattle.aero.specs.Aero.{radiusOf}
 use Rattle.contact.specs.Contact.{ontoOf}
@@ -60,6 +61,11 @@ impact-sheet s ball state h = past _ _ h
 -- a list that was zeroed, and then grew, is the records and +0 after them
 seen : (w n : ℕ) (l m : List Float) → Grown w 0 (zeroed l 0) n m → Clean w 0 (zeroed l 0) → length m ≡ length (zeroed l 0) → m ≡ shown (length l) (recs w n m)
 seen w n l m g c e = shows w n m (g .clean c) ∙ ap (λ (k : ℕ). shown k (recs w n m)) (e ∙ zeroed-length l 0)
+
+-- its limit of steps
+pub limit-of : (s : List ℕ) (shot : Shot) (nc np : ℕ) {c : Conditions} → refusalOf s shot nc np ≡ 0 → c ≡ conditionsOf shot → c .«step_limit» ≤ 2000000
+unfolding conditionsOf
+limit-of s shot nc np h e = rw e (settle-limit s shot nc np h)
 
 -- an accepted settle
 pub settled-whole : (s : List ℕ) (shot : Shot) (cs ps : List Float) (r : RunOut) {c : Conditions} {mc mp : List Float}

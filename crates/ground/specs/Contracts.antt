@@ -11,6 +11,7 @@ settledBy r = record {
   contacts = afterRun r .contacts;
   points = afterRun r .points;
   steps = afterRun r .steps;
+  evaluations = afterRun r .evaluations;
   rest = restBy (endedBy r) (afterRun r .good);
   rect = afterRun r .rect;
 }

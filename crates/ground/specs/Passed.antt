@@ -2,12 +2,14 @@
 use Prim.Native.Nat.{ℕ, _≤_}
 use native.Mathlib.Omega.{arith}
 use mathlib.Core.Path.{_≡_, refl}
-use mathlib.Core.Bool.{Bool, true, false, not, cond}
+use mathlib.Core.Bool.{Bool, true, false, not, cond, _&&_}
 use mathlib.Core.List.{List}
-use lib.Dec.{eqb}
+use lib.Dec.{eqb, leb, leb→le}
 use borrow.Author.Tests.{eqb-true, eqb-false}
-use Rattle.number.specs.Ops.{if_then_else_}
-use Rattle.shot.specs.Tests.{inputTest}
+use Rattle.number.specs.Ops.{if_then_else_, dec}
+use Rattle.number.specs.Number.{withinOf}
+use Rattle.look.specs.Within.{and-parts}
+use Rattle.shot.specs.Tests.{stepPhysicsOk, physicsOk, inputTest}
 use Rattle.shot.specs.Passed.{Passes, input-passes, input-most}
 use Rattle.shot.specs.declared.Shot.{Shot}
 use Rattle.sheet.specs.Sheet.{headerOk, surfaceOk, patchOk, surfaces, patches, all}
@@ -43,6 +45,15 @@ module _ (s : List ℕ) (shot : Shot) (nc np : ℕ) where
 
   pub settle-passes : refusalOf s shot nc np ≡ 0 → Passes shot
   settle-passes h = input-passes shot (tests h .1)
+
+  -- 01, 4: "step_limit 1..2,000,000"
+  pub settle-limit : refusalOf s shot nc np ≡ 0 → shot .«step_limit» ≤ 2000000
+  unfolding physicsOk
+  settle-limit h =
+      let p = shot .physics in
+      let x = stepPhysicsOk (p .dt) (p .«stop_speed») (p .«roll_threshold») && withinOf (dec 0 1) (dec 1 1) (p .«min_hop_height»)
+      && withinOf (dec 0 1) (dec 600 1) (p .«max_time») && leb (p .«max_impacts») 64 && leb 1 (shot .«step_limit») in
+      leb→le (shot .«step_limit») 2000000 (and-parts x (leb (shot .«step_limit») 2000000) (rw (settle-passes h .physics) tt) .1)
 
   pub refused-by : refusalOf s shot nc np ≤ 8
   unfolding refusalOf

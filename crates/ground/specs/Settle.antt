@@ -46,7 +46,7 @@ noState = record { time = dec 0 1; pos = zero3; vel = zero3; spin = zero3 }
 
 -- "Result of a settle: the number, zero counts, all-zero (+0) final state and rectangle"
 abbrev pub refusal : ℕ → Settled
-refusal n = record { answer = n; termination = Nothing; contacts = 0; points = 0; steps = 0; rest = noState; rect = noRect }
+refusal n = record { answer = n; termination = Nothing; contacts = 0; points = 0; steps = 0; evaluations = 0; rest = noState; rect = noRect }
 
 abbrev pub answerBy : Outcome Ending → ℕ
 answerBy (goes e) = 0
@@ -61,7 +61,7 @@ abbrev pub restBy : Outcome Ending → BallState → BallState
 restBy (goes e) good = e .state
 restBy (stops n) good = good
 
--- "lists and counts as pushed so far, steps taken, rectangle so far"
+-- "lists and counts as pushed so far, steps taken, rectangle so far"; 02, paper 4: "under 20 to 23 those [evaluations] so far"
 abbrev pub settledOf : Outcome Ending → Log → Rect → Settled
 settledOf x l q = record {
   answer = answerBy x;
@@ -69,6 +69,7 @@ settledOf x l q = record {
   contacts = length (l .contacts .records);
   points = length (l .points .records);
   steps = l .steps;
+  evaluations = l .evaluations;
   rest = restBy x (l .good);
   rect = q;
 }
@@ -91,6 +92,7 @@ conditionsOf s = record {
 abbrev pub firstLog : BallState → ℕ → ℕ → Log
 firstLog landing nc np = record {
   steps = 0;
+  evaluations = 0;
   contacts = record { room = nc / contactWidth; records = [] };
   points = record { room = np / pointWidth; records = [] };
   good = landing;

@@ -42,6 +42,7 @@ pub struct Settled {
     pub contacts: usize,
     pub points: usize,
     pub steps: u64,
+    pub evaluations: u64,
     pub rest: BallState,
     pub rect: Rect,
 }
@@ -67,6 +68,7 @@ pub fn refused(answer: u32) -> Settled
         contacts: 0,
         points: 0,
         steps: 0,
+        evaluations: 0,
         rest: BallState {
             time: 0.0,
             pos: DVec3::ZERO,
@@ -93,6 +95,7 @@ fn report(r: RunOut) -> Settled
                 contacts: t.contacts,
                 points: t.points,
                 steps,
+                evaluations: t.evaluations,
                 rest: state,
                 rect,
             }
@@ -106,6 +109,7 @@ fn report(r: RunOut) -> Settled
                 contacts: t.contacts,
                 points: t.points,
                 steps: t.steps,
+                evaluations: t.evaluations,
                 rest: good,
                 rect,
             }

@@ -2,6 +2,7 @@
 ghost use mathlib.Core.Path.{_≡_};
 ghost use Rattle.course.specs.Sheet.{courseOf};
 ghost use Rattle.course.specs.Index.{Ready};
+ghost use Rattle.tally.specs.Contracts.{Bounded};
 ghost use Rattle.roll.specs.Roll.{lastOf, rollFrom};
 ghost use Rattle.ground_phase.specs.GroundPhase.{lastPhase};
 ghost use Rattle.ground_phase.specs.Contracts.{TimesUp, Grounds};
@@ -75,6 +76,7 @@ pub fn ground(
     tally: Tally,
 ) -> GroundOut
     requires { ⌜ Ready (now sheet) (now index) ⌝ }
+    requires { ⌜ Bounded c tally ⌝ }
     ensures { λ r. ⌜ Grounds (courseOf (now (sheet .entry))) c roll tally (now (points .entry)) r (now (points .exit)) ⌝ }
 {
     let mut g = roll;

@@ -33,7 +33,7 @@ module _ (f : Flight) (arc : Arc) where
 
 -- the step is made and counted
 pub stepped : {o : Oracle} {t t' : Tally} {lc lp : List Float} (c : Conditions) (aero : AeroParams) (f : Flight) {arc : Arc} → arc ≡ stepArc c aero f.state
-    → MakesStep t t' → Reached o (hopStep c aero f) (place t lc lp) 1 (toTest f arc) (place t' lc lp)
+    → MakesStep t 0 t' → Reached o (hopStep c aero f) (place t lc lp) 1 (toTest f arc) (place t' lc lp)
 unfolding hopStep
 stepped c aero f e r = rw (← e) (step-made _ _ begun r)
 

@@ -49,9 +49,9 @@ hopNext f b none = do
   when due (pushPoint b Hop)
   pure (again (flight b (nextAfter due f.«next_sample» f.«next_sample»)))
 
--- what a hop step made of a state: the state at its end
+-- what a hop step made of a state: the state at its end; its search comes after it
 abbrev pub flownTo : BallState → BallState → Made
-flownTo state end = record { from = state; to = end; phase = Hop; rolling = false }
+flownTo state end = record { from = state; to = end; phase = Hop; rolling = false; evaluations = 0 }
 
 -- one pass
 unfoldable pub hopStep : Conditions → AeroParams → Flight → M (Pass Flight Way)

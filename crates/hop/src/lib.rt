@@ -5,6 +5,7 @@ ghost use Rattle.number.specs.Ops.{_⊕_};
 ghost use Rattle.course.specs.Sheet.{courseOf};
 ghost use Rattle.course.specs.Index.{Ready};
 ghost use Rattle.tally.specs.Times.{sampleInterval};
+ghost use Rattle.tally.specs.Contracts.{Bounded};
 ghost use Rattle.hop.specs.Hop.{stepArc, stepEnd, flight};
 ghost use Rattle.hop.specs.Contracts.{HopPasses, Hops};
 use aero::AeroParams;
@@ -92,12 +93,13 @@ fn hop_step(
 ) -> HopPass
     requires { ⌜ Ready (now sheet) (now index) ⌝ }
     requires { ⌜ t .steps < c .«step_limit» ⌝ }
+    requires { ⌜ Bounded c t ⌝ }
     ensures { λ r. ⌜ HopPasses (courseOf (now (sheet .entry))) c aero f t (now (points .entry)) r (now (points .exit)) ⌝ }
 {
     let state = f.state;
     let arc = step_arc(c, aero, state);
     let b = step_end(arc, state);
-    let t1 = tally::count_step(t);
+    let t1 = tally::count_step(t, 0);
     let Tested::Good(t2) = tally::test(t1, b) else {
         return HopPass::Ended(22, t1);
     };
@@ -150,6 +152,7 @@ pub fn hop(
     tally: Tally,
 ) -> HopOut
     requires { ⌜ Ready (now sheet) (now index) ⌝ }
+    requires { ⌜ Bounded c tally ⌝ }
     ensures { λ r. ⌜ Hops (courseOf (now (sheet .entry))) c flight tally (now (points .entry)) r (now (points .exit)) ⌝ }
 {
     let start = flight.state;

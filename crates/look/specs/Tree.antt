@@ -1,5 +1,6 @@
 -- Definitions. The look tree: a definition that may look at a course, as its looks, its steps and its answer. Definitions, and the laws that a
 -- caller's proof goes by.
+use Prim.Native.Nat.{ℕ}
 use mathlib.Core.Path.{_≡_, refl, _∙_}
 use mathlib.Core.List.{List, [], _∷_, _++_}
 use mathlib.Core.Bool.{Bool, true, false}
@@ -17,12 +18,14 @@ pub record Spot : Type 0 where
   pub x : Float
   pub z : Float
 
--- what a step made: the state that it took and the one that it made of it, its phase, and whether the ball rolls on
+-- what a step made: the state that it took and the one that it made of it, its phase, whether the ball rolls on, and the evaluations of its
+-- own search (a slide's; a hop searches after its step)
 pub record Made : Type 0 where
   pub from : BallState
   pub to : BallState
   pub phase : Phase
   pub rolling : Bool
+  pub evaluations : ℕ
 
 -- It is done with an answer, or it looks at a spot and goes on by what comes of the look, or a step (01: one pass) is made.
 pub data Tree (A : Type 0) : Type 0 where

@@ -20,17 +20,17 @@ use Rattle.search.specs.declared.Bracket.{Bracket}
 use Rattle.slide.specs.Slide.{timeAtThreshold}
 use Rattle.slide.specs.declared.Patch.{Patch}
 use Rattle.look.specs.Tree.{Oracle, looks as looksIn}
-use Rattle.tally.specs.Language.{Log, onward, inM, Pass, again, over}
+use Rattle.tally.specs.Language.{Log, onward, inM, evaluate, Pass, again, over}
 use Rattle.tally.specs.declared.Conditions.{Conditions}
 use Rattle.arrival.specs.Arrival.{clearanceAt, hopArrival}
-use Rattle.arrival.specs.RootSearch.{Gives}
+use Rattle.arrival.specs.RootSearch.{Gives, EvaluatesAtMost}
 use Rattle.arrival.specs.FirstCrossing.{IfSome}
 use Rattle.arrival.specs.ArrivalTime.{ArrivesIn}
 use Rattle.hop.specs.Hop.{stepArc, hopStep}
 use Rattle.hop.specs.declared.Flight.{Flight}
 use Rattle.hop.specs.declared.Way.{Way}
 use Rattle.hop.specs.declared.Way.the-variants.{Arrived, Late}
-use Rattle.roll.specs.Roll.{groundStep}
+use Rattle.roll.specs.Roll.{stepOn, groundStep}
 use Rattle.roll.specs.declared.Roll.{Roll}
 use Rattle.roll.specs.declared.Ending.{Ending}
 use Rattle.promises.specs.Passes.{Made, inAir, onGround}
@@ -66,7 +66,9 @@ module _ (c : Conditions) where
         (hopArrival (stepArc c aero (f .state)) (f .state .time) end (f .state .spin))
     -- 01: "at most 200 evaluations", each one look
     pub looks : (b : Bracket) (guess : Float) (o : Oracle) (l : Log)
-        → length (looksIn o (findRoot inM (clearanceAt (stepArc c aero (f .state))) b guess l)) ≤ 200
+        → length (looksIn o (findRoot inM (evaluate (clearanceAt (stepArc c aero (f .state)))) b guess l)) ≤ 200
+    -- 02, paper 4: as many are counted, in all that the pass evaluates
+    pub evaluations : (end : Float) → EvaluatesAtMost 200 (hopArrival (stepArc c aero (f .state)) (f .state .time) end (f .state .spin))
     -- the pass leads to no earlier time
     pub onward : Gives (HopLeads (Later (f .state .time))) (hopStep c aero f)
 
@@ -76,7 +78,9 @@ module _ (c : Conditions) where
     pub step : StepLength (c .physics .dt) (minOf (c .physics .dt) (c .«t_end» ⊖ g .state .time))
     -- 01: "In `slide` the slip speed less the threshold takes the clearance's place": tau is found within 0..h
     pub slide : (p : Patch) (start : Motion) (uHat₀ : DVec3) (s₀ threshold sFull : Float) → let h = minOf (c .physics .dt) (c .«t_end» ⊖ g .state .time) in
-        Within (dec 0 1) h (timeAtThreshold p start (g .state .time) h uHat₀ s₀ threshold sFull)
+        Within (dec 0 1) h (timeAtThreshold p start (g .state .time) h uHat₀ s₀ threshold sFull .0)
+    -- 02, paper 4: "at most 200"
+    pub evaluations : stepOn c g .evaluations ≤ 200
     -- the pass leads to no earlier time, by a slide, a roll or a stop
     pub onward : Gives (GroundLeads (Later (g .state .time))) (groundStep c g)
 

@@ -27,7 +27,7 @@ use Rattle.course.specs.Sheet.{courseOf}
 use Rattle.records.specs.Records.{Put, full, put, pushed}
 use Rattle.tally.specs.Times.{isLate}
 use Rattle.tally.specs.Language.{tested, point, contact, M, Log, Outcome, goes, stops, Ran, onward, _>>=_, pure, stopWith, if_then_else_, when, look, test}
-use Rattle.tally.specs.Language.{seenAt, pointOf, contactOf, pushPoint, pushContact, mark, truncate, makeStep, stepsLeft, inM, loop, Pass, again, over}
+use Rattle.tally.specs.Language.{countEvaluation, evaluate, seenAt, pointOf, contactOf, pushPoint, pushContact, mark, truncate, makeStep, stepsLeft, inM, loop, Pass, again, over}
 use Rattle.tally.specs.declared.Conditions.{Conditions}
 use Rattle.shot.specs.declared.Shot.{Shot}
 use Rattle.arrival.specs.declared.Arc.{Arc}
@@ -154,6 +154,10 @@ module _ (o : Oracle) where
   unfolding clearanceAt
   makes-clearanceAt arc tau = makes-clearance _
 
+  makes-evaluate : (arc : Arc) (tau : Float) → Makes 0 (evaluate (clearanceAt arc) tau)
+  unfolding countEvaluation
+  makes-evaluate arc tau = makes-then countEvaluation _ 0 (λ l. makes-pure tt _) (λ _. makes-clearanceAt arc tau)
+
   -- a count of steps for the search: none in an evaluation, so none in all
   abbrev none-made : Counts inM
   none-made = record { atMost = λ n m. Makes 0 m; of-pure = λ n a. makes-pure a; of-bind = λ n x k h g. makes-then x k 0 h g }
@@ -179,7 +183,7 @@ module _ (o : Oracle) where
   unfolding crossingTime
   makes-crossingTime arc b =
       makes-then (endValue arc b) _ 0 (makes-endValue arc b) (λ x. makes-then (look _ _) _ 0 (makes-look _ _) (λ s.
-      every-at-most-200 none-made (clearanceAt arc) (makes-clearanceAt arc) _ _))
+      every-at-most-200 none-made (evaluate (clearanceAt arc)) (makes-evaluate arc) _ _))
 
   makes-hopArrival : (arc : Arc) (t end : Float) (spin : DVec3) → Makes 0 (hopArrival arc t end spin)
   unfolding hopArrival firstCrossing

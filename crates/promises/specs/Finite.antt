@@ -1,6 +1,6 @@
 -- Statements. What a settle leaves, under every answer: each pushed point is that of a state that passed test 22, each contact that of two such states (or the
 -- landing) and of a sample of the course, no more of either than the lists have room for, and no more steps than step_limit.
-use Prim.Native.Nat.{ℕ, zero, suc, _+_, _-_, _/_, _≤_, _<_, zero-le, max}
+use Prim.Native.Nat.{ℕ, zero, suc, _+_, _-_, _*_, _/_, _≤_, _<_, zero-le, max}
 use native.Mathlib.Nat.{le-max-left, le-max-right}
 use native.Mathlib.Omega.{arith}
 use mathlib.Core.Path.{_≡_, refl, ap}
@@ -36,8 +36,9 @@ use Rattle.ground.specs.Tests.{refusalOf}
 use Rattle.ground.specs.Passed.{settle-passes}
 use Rattle.ground.specs.Settle.{Result, answerBy, howBy, restBy, reportOf, conditionsOf, firstLog, runOf, settleOf}
 use Rattle.promises.specs.Samples.{Sampled, sampled, number-finite}
-use Rattle.tally.specs.Triple.{Past, past, After, misses, of-run}
+use Rattle.tally.specs.Triple.{Past, past, After, misses, of-run, of-every-run}
 use Rattle.promises.specs.Terms.{Answer, Each, PointOf, ContactOf, Failed}
+use Rattle.promises.specs.Work.{train-works}
 use Rattle.promises.specs.Keeps.{Setting, Sound, Why, contacts-full, points-full, failed, limit-reached, Stops, at-ok}
 use Rattle.promises.specs.Parts.{Ended, train-keeps}
 
@@ -124,6 +125,8 @@ module _ (sheet : List ℕ) (shot : Shot) (cs ps : List Float) where
     pub limit-reached : got .settled .answer ≡ 23 → got .settled .steps ≡ limit
     -- the count is of the steps that the run made
     pub made : got .settled .steps ≡ stepsOf o t
+    -- and the evaluations are at most 200 a step
+    pub work : got .settled .evaluations ≤ 200 * got .settled .steps
     pub answer : Answer (got .settled .termination) (got .settled .answer)
     -- the final state passes test 22
     pub rest : stateOk (got .settled .rest) ≡ true
@@ -216,6 +219,7 @@ module _ (sheet : List ℕ) (shot : Shot) (cs ps : List Float) where
         each-point = s .points .each;
         steps = rw (h, value-is) (s .counted .1);
         made = rw (h, value-is) (s .counted .0);
+        work = rw (h, value-is) (let few = of-every-run o (train-works o c landing) (firstLog landing (length cs) (length ps)) (omega arith) in omega (arith, few));
         answer = rw (h, value-is) (answer-is (run o t .outcome) end k);
         contacts-full = rw (h, value-is) (λ a. reason-20 (y 20 (omega arith) a .0));
         points-full = rw (h, value-is) (λ a. reason-21 (y 21 (omega arith) a .0));

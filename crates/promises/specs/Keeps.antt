@@ -11,11 +11,11 @@ use Rattle.state.specs.declared.Phase.{Phase}
 use Rattle.surface.specs.declared.GroundSample.{GroundSample}
 use Rattle.look.specs.Tree.{Made, Tree, done, look as lookNode, step, Oracle, Spot, seen, run}
 use Rattle.records.specs.Records.{Records}
-use Rattle.tally.specs.Language.{M, Log, Lent, Outcome, goes, stops, Ran, tested, withPoints, withContacts, pointOf, contactOf}
+use Rattle.tally.specs.Language.{M, Log, Lent, Outcome, goes, stops, Ran, evaluated, tested, withPoints, withContacts, pointOf, contactOf}
 use Rattle.tally.specs.Language.{look, test, pushPoint, pushContact, mark, truncate, makeStep, stepsLeft, when}
 use Rattle.tally.specs.declared.Conditions.{Conditions}
 use Rattle.promises.specs.Terms.{Each, Ok, PointOf, SampleOf, ContactOf, GivenBy, Follows, Failed, of-spot, of-state}
-use Rattle.tally.specs.Triple.{Past, spot, After, reach, reaches, Triple}
+use Rattle.tally.specs.Triple.{Past, spot, evaluatedOnce, After, reach, reaches, Triple}
 use Rattle.tally.specs.Triple.{t-look, t-test, t-point, t-contact, t-mark, t-truncate, t-step, t-left, t-when, t-know}
 
 each-more : (P : List Float → Type 0) (rs : Records) (r : List Float) → Each P rs → P r → Each P (rs ++ (r ∷ []))
@@ -126,6 +126,9 @@ module _ {e : Setting} where
     sound-points : {rs : Records} → Listed PointOf (e .points) (withPoints rs l .points) → Sound e l n → Sound e (withPoints rs l) n
     sound-points p h = record { good = h .good; contacts = h .contacts; points = p; few-impacts = h .few-impacts; counted = h .counted }
 
+    sound-evaluated : Sound e l n → Sound e (evaluated 1 l) n
+    sound-evaluated h = record { good = h .good; contacts = h .contacts; points = h .points; few-impacts = h .few-impacts; counted = h .counted }
+
     sound-contacts : {rs : Records} → Listed (ContactOf (e .course)) (e .contacts) (withContacts rs l .contacts) → length rs ≤ e .most
         → Sound e l n → Sound e (withContacts rs l) n
     sound-contacts c f h = record { good = h .good; contacts = c; points = h .points; few-impacts = f; counted = h .counted }
@@ -137,6 +140,9 @@ module _ {e : Setting} where
     a-look x z =
         t-look x z (λ w a _. (record { sound = a .sound; frame = a .frame; good = a .good; on = a .on }, refl))
         (λ w a t. record { sound = a .sound; why = failed (of-spot (spot x z) (rw (a .on)) t) })
+
+    pub a-evaluation : (w : Past) → At e F g w → At e F g (evaluatedOnce w)
+    a-evaluation w a = record { sound = sound-evaluated (a .sound); frame = a .frame; good = a .good; on = a .on }
 
     pub a-test : (s : BallState) → Follows (e .course) (e .conditions) g s → Keeps e (At e F g) (test s) (λ b w. At e F b w × (b ≡ s))
     a-test s f =

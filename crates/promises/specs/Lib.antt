@@ -2,6 +2,8 @@ pub mod Demand
 pub mod Terms
 pub mod Keeps
 pub mod Parts
+pub mod Always
+pub mod Work
 pub mod Samples
 pub mod Finite
 pub mod Promises

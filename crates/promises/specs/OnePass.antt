@@ -30,12 +30,14 @@ use Rattle.arrival.specs.Arrival.{clearance, hopArrival}
 use Rattle.tally.specs.Triple.{t-bind, t-test, t-step, t-made}
 use Rattle.arrival.specs.RootSearch.{at-most-200-looks, Gives, gives-pure, gives-then, gives-bind}
 use Rattle.arrival.specs.FirstCrossing.{IfSome}
+use Rattle.arrival.specs.Evaluations.{arrival-at-most-200}
 use Rattle.arrival.specs.ArrivalTime.{ArrivesIn, arrival-within}
 use Rattle.hop.specs.Hop.{flight, stepArc, stepEnd, hopNext, hopStep}
 use Rattle.hop.specs.declared.Flight.{Flight}
 use Rattle.hop.specs.declared.Way.{Way}
 use Rattle.hop.specs.declared.Way.the-variants.{Arrived}
 use Rattle.roll.specs.Roll.{stepOn, heldOf, putDown, groundStep}
+use Rattle.roll.specs.Evaluations.{pass-at-most-200}
 use Rattle.roll.specs.declared.Roll.{Roll}
 use Rattle.roll.specs.declared.Ending.{Ending}
 use Rattle.promises.specs.Finite.{state-finite}
@@ -154,7 +156,13 @@ module _ (c : Conditions) (paced : Paced c) where
         (record { by = arc .h; forth = not-below (arc .h) (lt-le (dec 0 1) (arc .h) (hop-step .0 .above-0)); is = refl }) ok)) (arrives end))))
 
     pub hop-pass : HopBracket c aero f
-    hop-pass = record { step = hop-step .0; arrival = arrives; looks = at-most-200-looks arc; onward = hop-leads }
+    hop-pass = record {
+      step = hop-step .0;
+      arrival = arrives;
+      looks = at-most-200-looks arc;
+      evaluations = λ end. arrival-at-most-200 arc t end (f .state .spin);
+      onward = hop-leads;
+    }
 
   -- ---- the ground's
 
@@ -187,6 +195,7 @@ module _ (c : Conditions) (paced : Paced c) where
           step = due-step (g .state) timed due;
           slide = λ p start uHat₀ s₀ threshold sFull. slide-time-within p start (g .state .time) (h (g .state) timed due) uHat₀ s₀ threshold sFull
               (due-step (g .state) timed due .double) from-0 (h-at-most (g .state) timed due);
+          evaluations = pass-at-most-200 c g;
           onward = ground-leads;
         }
 

@@ -20,7 +20,7 @@ use Rattle.search.specs.declared.Bracket.{Bracket}
 use Rattle.search.specs.declared.Search.{Search}
 use Rattle.search.specs.declared.RootStep.{RootStep}
 use Rattle.search.specs.declared.RootStep.the-variants.{Next, Found}
-use Rattle.tally.specs.Language.{M, inM, look, pushContact}
+use Rattle.tally.specs.Language.{M, inM, look, pushContact, evaluate}
 use Rattle.tally.specs.declared.Conditions.{Conditions}
 use Rattle.arrival.specs.Arrival.{clearance, clearanceAt, subStep, crossingFrom, firstCrossing, endValue, crossingTime, hopArrival}
 use Rattle.arrival.specs.declared.Arc.{Arc}
@@ -44,15 +44,16 @@ use Rattle.strike.specs.declared.Struck.{Struck}
 use Rattle.strike.specs.declared.Flown.{Flown}
 use Rattle.strike.specs.declared.Flown.the-variants.{Hop, Ground}
 use Rattle.train.specs.Train.{lastImpact, toGround, trainFrom, train}
-use Rattle.tally.specs.Triple.{t-made, Past, After, OnWith, Triple, t-before, t-after, t-bind, t-then, t-fact, t-know, t-of, t-if, t-pure, t-same, t-loop}
+use Rattle.tally.specs.Triple.{t-made, t-evaluation, evaluatedOnce, Past, After, OnWith, Triple, t-before, t-after, t-bind, t-then, t-fact, t-know, t-of, t-if, t-pure, t-same, t-loop}
 use Rattle.promises.specs.Terms.{Answer, SampleOf, Ok, under, GivenBy, struckAt, arcFrom, Grounded, at-once, after-hop}
 use Rattle.promises.specs.Terms.{impact, hop-step, arrival, drop as dropping, ground-step}
 use Rattle.promises.specs.Keeps.{Setting, Keeps, At, Within, at-ok, at-frame, t-given}
-use Rattle.promises.specs.Keeps.{a-look, a-test, a-point-own, a-contact, a-mark, a-truncate, a-when, a-step, a-left, a-limit}
+use Rattle.promises.specs.Keeps.{a-look, a-evaluation, a-test, a-point-own, a-contact, a-mark, a-truncate, a-when, a-step, a-left, a-limit}
 
 -- ---- where a hop meets the ground: looks alone. What every look keeps, this keeps
 
-module _ {o : Oracle} {P : Past → Type 0} {R : ℕ → Past → Type 0} (look-keeps : (x z : Float) → Triple o P (look x z) (λ s w. P w × (s ≡ o x z)) R) where
+module _ {o : Oracle} {P : Past → Type 0} {R : ℕ → Past → Type 0} (look-keeps : (x z : Float) → Triple o P (look x z) (λ s w. P w × (s ≡ o x z)) R)
+    (evaluation-keeps : (w : Past) → P w → P (evaluatedOnce w)) where
   abbrev Looks : {A : Type 0} → M A → Type 0
   Looks m = Triple o P m (λ _. P) R
 
@@ -75,12 +76,15 @@ module _ {o : Oracle} {P : Past → Type 0} {R : ℕ → Past → Type 0} (look-
     l-crossingFrom len fEnd (suc n) i b =
         t-bind (l-subStep len fEnd i b) (λ x. t-if (le (x .«f_hi») (dec 0 1)) (λ _. t-same) (λ _. l-crossingFrom len fEnd n (i + 1) x))
 
-    l-root : (n : ℕ) (s : Search) → Looks (rootFrom inM f n s)
+    l-evaluate : (x : Float) → Looks (evaluate f x)
+    l-evaluate x = t-bind (t-evaluation evaluation-keeps) (λ _. kf x)
+
+    l-root : (n : ℕ) (s : Search) → Looks (rootFrom inM (evaluate f) n s)
     unfolding rootFrom
     l-root zero s = t-same
-    l-root (suc n) s = t-bind (kf _) (λ x. next (l-root n) (narrowed s (inBracket s) x))
+    l-root (suc n) s = t-bind (l-evaluate _) (λ x. next (l-root n) (narrowed s (inBracket s) x))
       where
-        next : ((t : Search) → Looks (rootFrom inM f n t)) → (r : RootStep) → Looks (afterStep inM (rootFrom inM f n) r)
+        next : ((t : Search) → Looks (rootFrom inM (evaluate f) n t)) → (r : RootStep) → Looks (afterStep inM (rootFrom inM (evaluate f) n) r)
         next h (Next t) = h t
         next h (Found x) = t-same
 
@@ -183,7 +187,7 @@ module _ (e : Setting) where
     f-hopStep : (spin : DVec3) (n : ℕ) (f : Flight) → Keeps e (Flying spin (suc n) f) (hopStep c (fromSpinVector spin) f) (OnWith (Flying spin n) Flew)
     unfolding hopStep
     f-hopStep spin n f = t-fact (λ h. rw (← h) (t-know (λ w. at-ok) (λ ok. t-made _ _ (a-step n _) (t-then (a-test _ (hop-step refl)) (λ b d.
-        t-then (l-clearance a-look _) (λ end v. t-then (t-given (l-hopArrival a-look _ _ _ _)) (λ a l. f-hopNext n f b ok d a (rw v at l))))))))
+        t-then (l-clearance a-look a-evaluation _) (λ end v. t-then (t-given (l-hopArrival a-look a-evaluation _ _ _ _)) (λ a l. f-hopNext n f b ok d a (rw v at l))))))))
 
     f-hop : (start : BallState) → Keeps e (Only start) (hop c start) Flew
     unfolding hop hopFrom

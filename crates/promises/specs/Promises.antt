@@ -1,5 +1,5 @@
 -- Statements. What 01 promises of every settle, on one page: each is one statement on what a call gives, proved from the lemmas of Finite.
-use Prim.Native.Nat.{ℕ, suc, _/_, _≤_, _<_, zero-le, max}
+use Prim.Native.Nat.{ℕ, suc, _*_, _/_, _≤_, _<_, zero-le, max}
 use native.Mathlib.Nat.{max-le}
 use native.Mathlib.Omega.{arith}
 use mathlib.Core.Path.{_≡_, refl, _∙_}
@@ -119,7 +119,7 @@ module _ (sheet : List ℕ) (shot : Shot) (cs ps : List Float) where
   -- 01: "zero counts, all-zero (+0) final state and rectangle; lists untouched"
   pub record Refused : Type 0 where
     pub answer : got .settled .answer ≡ number
-    pub counts : (got .settled .contacts ≡ 0) × (got .settled .points ≡ 0) × (got .settled .steps ≡ 0)
+    pub counts : (got .settled .contacts ≡ 0) × (got .settled .points ≡ 0) × (got .settled .steps ≡ 0) × (got .settled .evaluations ≡ 0)
     pub state : got .settled .rest ≡ noState
     pub rect : got .settled .rect ≡ noRect
     pub lists : (got .contacts ≡ cs) × (got .points ≡ ps)
@@ -128,7 +128,7 @@ module _ (sheet : List ℕ) (shot : Shot) (cs ps : List Float) where
   unfolding settleOf
   refused-result h =
       let e = ne-eqb number 0 h in
-      record { answer = rw e; counts = (rw e, rw e, rw e); state = rw e; rect = rw e; lists = (rw e, rw e) }
+      record { answer = rw e; counts = (rw e, rw e, rw e, rw e); state = rw e; rect = rw e; lists = (rw e, rw e) }
 
   -- ---- how many contacts
 
@@ -215,6 +215,16 @@ module _ (sheet : List ℕ) (shot : Shot) (cs ps : List Float) where
   -- 01: "its count must equal the steps made"
   pub steps-made : number ≡ 0 → got .settled .steps ≡ stepsOf (courseOf sheet) (runOf shot (length cs) (length ps))
   steps-made h = settle-leaves sheet shot cs ps h .made
+
+  -- ---- evaluations
+
+  -- 02, paper 4: "how many evaluations it made, at most 200". Of every call, and under every answer: no more than 200 for each step made
+  pub few-evaluations : got .settled .evaluations ≤ 200 * got .settled .steps
+  few-evaluations = go (eqb number 0) refl
+    where
+      go : (b : Bool) → eqb number 0 ≡ b → got .settled .evaluations ≤ 200 * got .settled .steps
+      go true e = settle-leaves sheet shot cs ps (eqb-true number 0 e) .work
+      go false e = rw (refused-result (eqb-false number 0 e) .counts .3) zero-le
 
 -- the shot with n for max_impacts
 abbrev pub allowing : ℕ → Shot → Shot

@@ -84,13 +84,13 @@ sums-append s (x ∷ xs) ys = sums-append _ xs ys
 -- ---- the three parts of the comparison are the whole
 
 pub joined : (e : List ℕ) (s : Settled) (cs ps : List Float)
-    → (holds e 3 (countWords s) && Agrees e 8 (doublesOf s)) && holds e 22 (sumWords cs ps) ≡ sameOf e (result s cs ps)
+    → (holds e 3 (countWords s) && Agrees e 9 (doublesOf s)) && holds e 23 (sumWords cs ps) ≡ sameOf e (result s cs ps)
 unfolding sameOf wordsOf
 joined e s cs ps =
-    gather (holds e 3 (countWords s)) (noNan (doublesOf s)) (holds e 8 (map bitsOf (doublesOf s))) (holds e 22 (sumWords cs ps))
+    gather (holds e 3 (countWords s)) (noNan (doublesOf s)) (holds e 9 (map bitsOf (doublesOf s))) (holds e 23 (sumWords cs ps))
     ∙ ap (λ (b : Bool). noNan (doublesOf s) && b)
     (sym (holds-append e 3 (countWords s) (map bitsOf (doublesOf s) ++ sumWords cs ps)
-    ∙ ap (λ (b : Bool). holds e 3 (countWords s) && b) (holds-append e 8 (map bitsOf (doublesOf s)) (sumWords cs ps))))
+    ∙ ap (λ (b : Bool). holds e 3 (countWords s) && b) (holds-append e 9 (map bitsOf (doublesOf s)) (sumWords cs ps))))
 
 -- ---- a part of a list of one value
 

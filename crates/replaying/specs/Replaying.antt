@@ -1,4 +1,4 @@
--- Definitions. A replay of one entry of the fixed list of the reference's answers (compare/README.md, "The fixed list"): 24 words of 8 bytes, then an input.
+-- Definitions. A replay of one entry of the fixed list of the reference's answers (compare/README.md, "The fixed list"): 25 words of 8 bytes, then an input.
 use Prim.Native.Nat.{ℕ, _+_, _-_, _%_, _^_}
 use mathlib.Core.Bool.{Bool, true, not, _&&_, cond}
 use mathlib.Core.List.{List, [], _∷_, _++_, map}
@@ -14,7 +14,7 @@ use Rattle.replaying.specs.declared.Sums.{Sums}
 use Rattle.replaying.specs.declared.Replayed.{Replayed}
 use Rattle.replaying.specs.declared.Replayed.the-variants.{Same, Differs, Damaged}
 
--- ---- the words 3 to 23 of an outcome
+-- ---- the words 3 to 24 of an outcome
 
 -- a double's bits; those of a NaN are free, and all ones stand for them
 unfoldable pub bitsOf : Float → ℕ
@@ -25,15 +25,15 @@ unfoldable pub sumsOf : Sums → List Float → Sums
 sumsOf s [] = s
 sumsOf s (v ∷ vs) = let a = (s .a + bitsOf v) % 2 ^ 64 in sumsOf (record { a = a; b = (s .b + a) % 2 ^ 64 }) vs
 
--- 3 to 7
+-- 3 to 8
 abbrev pub countWords : Settled → List ℕ
-countWords s = s .answer ∷ terminationNumber (s .termination) ∷ s .contacts ∷ s .points ∷ s .steps ∷ []
+countWords s = s .answer ∷ terminationNumber (s .termination) ∷ s .contacts ∷ s .points ∷ s .steps ∷ s .evaluations ∷ []
 
--- the doubles of 8 to 21: the final state's ten, the rectangle's four
+-- the doubles of 9 to 22: the final state's ten, the rectangle's four
 abbrev pub doublesOf : Settled → List Float
 doublesOf s = stateFields (s .rest) ++ (s .rect .«x_lo» ∷ s .rect .«x_hi» ∷ s .rect .«z_lo» ∷ s .rect .«z_hi» ∷ [])
 
--- 22 and 23
+-- 23 and 24
 abbrev pub sumWords : List Float → List Float → List ℕ
 sumWords contacts points = let s = sumsOf (record { a = 0; b = 0 }) (contacts ++ points) in s .a ∷ s .b ∷ []
 
@@ -56,11 +56,11 @@ sameOf e r = noNan (doublesOf (r .settled)) && holds e 3 (wordsOf r)
 
 -- word 0 is the input's length, and the words 1 and 2 are lengths that can be lent
 unfoldable pub intact : List ℕ → Bool
-intact e = leb 192 (length e) && eqb (wholeAt e 0) (length e - 192) && leb (wholeAt e 1) 1300 && leb (wholeAt e 2) 7051
+intact e = leb 200 (length e) && eqb (wholeAt e 0) (length e - 200) && leb (wholeAt e 1) 1300 && leb (wholeAt e 2) 7051
 
 -- every lent double is 1.0 before the call
 unfoldable pub replayedOf : List ℕ → Replayed
 replayedOf e =
     cond (intact e)
-    (cond (sameOf e (settleInputOf (drop 192 e) (replicate (wholeAt e 1) (dec 1 1)) (replicate (wholeAt e 2) (dec 1 1)))) Same Differs)
+    (cond (sameOf e (settleInputOf (drop 200 e) (replicate (wholeAt e 1) (dec 1 1)) (replicate (wholeAt e 2) (dec 1 1)))) Same Differs)
     Damaged

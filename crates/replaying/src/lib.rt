@@ -1,4 +1,4 @@
-// An entry of the fixed list of the reference's answers (compare/README.md, "The fixed list"): 24 words of 8 bytes, then the input's bytes.
+// An entry of the fixed list of the reference's answers (compare/README.md, "The fixed list"): 25 words of 8 bytes, then the input's bytes.
 ghost use mathlib.Core.Path.{_≡_};
 ghost use mathlib.Core.Bool.{not, _&&_};
 ghost use mathlib.Core.List.{map};
@@ -16,7 +16,7 @@ pub enum Replayed {
     Damaged,
 }
 
-// The words 22 and 23: sums over the bits of every lent double after the call, contacts, then points.
+// The words 23 and 24: sums over the bits of every lent double after the call, contacts, then points.
 struct Sums {
     a: u64,
     b: u64,
@@ -77,9 +77,9 @@ fn same_doubles(entry: &[u8], i: usize, doubles: &[f64]) -> bool
     true
 }
 
-// The words 3 to 7.
+// The words 3 to 8.
 fn same_counts(entry: &[u8], s: Settled) -> bool
-    requires { ⌜ 192 ≤ length (now entry) ⌝ }
+    requires { ⌜ 200 ≤ length (now entry) ⌝ }
     ensures { λ r. ⌜ r ≡ holds (now (entry .entry)) 3 (countWords s) ⌝ }
 {
     let t = s.termination;
@@ -89,14 +89,15 @@ fn same_counts(entry: &[u8], s: Settled) -> bool
         s.contacts as u64,
         s.points as u64,
         s.steps,
+        s.evaluations,
     ];
     same_words(entry, 3, &counts)
 }
 
-// The words 8 to 21: the final state and the rectangle.
+// The words 9 to 22: the final state and the rectangle.
 fn same_end(entry: &[u8], s: Settled) -> bool
-    requires { ⌜ 192 ≤ length (now entry) ⌝ }
-    ensures { λ r. ⌜ r ≡ (noNan (doublesOf s) && holds (now (entry .entry)) 8 (map bitsOf (doublesOf s))) ⌝ }
+    requires { ⌜ 200 ≤ length (now entry) ⌝ }
+    ensures { λ r. ⌜ r ≡ (noNan (doublesOf s) && holds (now (entry .entry)) 9 (map bitsOf (doublesOf s))) ⌝ }
 {
     let rest = s.rest;
     let pos = rest.pos;
@@ -119,7 +120,7 @@ fn same_end(entry: &[u8], s: Settled) -> bool
         rect.z_lo,
         rect.z_hi,
     ];
-    same_doubles(entry, 8, &doubles)
+    same_doubles(entry, 9, &doubles)
 }
 
 // For each double of bits w: a = a + w, then b = b + a, both modulo 2^64.
@@ -137,22 +138,22 @@ fn add_list(sums: Sums, list: &[f64]) -> Sums
     Sums { a, b }
 }
 
-// The words 22 and 23.
+// The words 23 and 24.
 fn same_lists(entry: &[u8], contacts: &[f64], points: &[f64]) -> bool
-    requires { ⌜ 192 ≤ length (now entry) ⌝ }
-    ensures { λ r. ⌜ r ≡ holds (now (entry .entry)) 22 (sumWords (now (contacts .entry)) (now (points .entry))) ⌝ }
+    requires { ⌜ 200 ≤ length (now entry) ⌝ }
+    ensures { λ r. ⌜ r ≡ holds (now (entry .entry)) 23 (sumWords (now (contacts .entry)) (now (points .entry))) ⌝ }
 {
     let sums = add_list(add_list(Sums { a: 0, b: 0 }, contacts), points);
     let words = [sums.a, sums.b];
-    same_words(entry, 22, &words)
+    same_words(entry, 23, &words)
 }
 
 // Settles the entry's input with these lists lent, and compares everything that the call gives.
 fn gives_same(entry: &[u8], contacts: &mut [f64], points: &mut [f64]) -> bool
-    requires { ⌜ 192 ≤ length (now entry) ⌝ }
-    ensures { λ r. ⌜ r ≡ sameOf (now (entry .entry)) (settleInputOf (drop 192 (now (entry .entry))) (now (contacts .entry)) (now (points .entry))) ⌝ }
+    requires { ⌜ 200 ≤ length (now entry) ⌝ }
+    ensures { λ r. ⌜ r ≡ sameOf (now (entry .entry)) (settleInputOf (drop 200 (now (entry .entry))) (now (contacts .entry)) (now (points .entry))) ⌝ }
 {
-    let s = input::settle_input(&entry[192..], contacts, points);
+    let s = input::settle_input(&entry[200..], contacts, points);
     same_counts(entry, s) & same_end(entry, s) & same_lists(entry, contacts, points)
 }
 
@@ -160,10 +161,10 @@ fn gives_same(entry: &[u8], contacts: &mut [f64], points: &mut [f64]) -> bool
 pub fn replay_entry(entry: &[u8]) -> Replayed
     ensures { λ r. ⌜ r ≡ replayedOf (now (entry .entry)) ⌝ }
 {
-    if entry.len() < 192 {
+    if entry.len() < 200 {
         return Replayed::Damaged;
     }
-    if word(entry, 0) != (entry.len() - 192) as u64 {
+    if word(entry, 0) != (entry.len() - 200) as u64 {
         return Replayed::Damaged;
     }
     let c = word(entry, 1);

@@ -40,6 +40,6 @@ module _ (c : Conditions) (g : Roll) (s : Stepped) (due : Bool) where
 -- the step is made and counted
 pub stepped : {o : Oracle} {t t' : Tally} {lc lp : List Float} (c : Conditions) (g : Roll) {s : Stepped} {due : Bool} → s ≡ stepOn c g
     → due ≡ pointDue g.state.time g.«next_sample» (lastOf g.last) s.phase
-    → MakesStep t t' → Reached o (groundStep c g) (place t lc lp) 1 (toPush c g s due) (place t' lc lp)
+    → MakesStep t (s .evaluations) t' → Reached o (groundStep c g) (place t lc lp) 1 (toPush c g s due) (place t' lc lp)
 unfolding groundStep
 stepped c g es ed r = rw (ed, ← es) (step-made _ _ begun r)

@@ -1,2 +1,3 @@
 pub mod Roll
 pub mod Contracts
+pub mod Evaluations

@@ -77,7 +77,7 @@ putDown c g next rolling under = ontoOf next under g.«at».normal rolling (radi
 
 -- what a contact step made of a state
 abbrev pub madeOf : BallState → Stepped → Made
-madeOf state s = record { from = state; to = s .state; phase = s .phase; rolling = s .rolling }
+madeOf state s = record { from = state; to = s .state; phase = s .phase; rolling = s .rolling; evaluations = s .evaluations }
 
 -- one pass
 unfoldable pub groundStep : Conditions → Roll → M (Pass Roll Ending)

@@ -3,6 +3,7 @@ ghost use mathlib.Core.Path.{_≡_};
 ghost use Prim.Native.Nat.{_<_};
 ghost use Rattle.course.specs.Sheet.{courseOf};
 ghost use Rattle.course.specs.Index.{Ready};
+ghost use Rattle.tally.specs.Contracts.{Bounded};
 ghost use Rattle.roll.specs.Roll.{stepOn, wholePhase, lastOf, wasPhase, pointDue, heldOf, putDown};
 ghost use Rattle.roll.specs.Contracts.{RollPasses};
 use rolling::Stepped;
@@ -136,11 +137,12 @@ pub fn ground_step(
 ) -> RollPass
     requires { ⌜ Ready (now sheet) (now index) ⌝ }
     requires { ⌜ t .steps < c .«step_limit» ⌝ }
+    requires { ⌜ Bounded c t ⌝ }
     ensures { λ r. ⌜ RollPasses (courseOf (now (sheet .entry))) c g t (now (points .entry)) r (now (points .exit)) ⌝ }
 {
     let state = g.state;
     let s = step_on(c, g);
-    let t1 = tally::count_step(t);
+    let t1 = tally::count_step(t, s.evaluations);
     let phase = s.phase;
     let last = g.last;
     let due = point_due(state.time, g.next_sample, last, phase);

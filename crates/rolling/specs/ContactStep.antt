@@ -56,6 +56,7 @@ slideStep p state vel dt rollThreshold =
       state = record { time = state .time ⊕ end .time; pos = end .motion .pos; vel = out .vel; spin = out .spin };
       phase = Slide;
       rolling = end .rolls;
+      evaluations = end .evaluations;
     }
 
 -- ---- rolling
@@ -110,6 +111,7 @@ restOf q state vel heading w t =
       state = record { time = state .time ⊕ t; pos = restPos q (state .pos) vel heading t; vel = zero3; spin = restSpin q w t };
       phase = Roll;
       rolling = true;
+      evaluations = 0;
     }
 
 -- the derivative of a ball that rolls
@@ -141,6 +143,7 @@ rollOn q state locked dt =
       state = record { time = state .time ⊕ dt; pos = m .pos; vel = m .vel; spin = rolledSpin q (locked .spin) m };
       phase = Roll;
       rolling = true;
+      evaluations = 0;
     }
 
 -- the step of a ball that rolls, with the spin w about the normal

@@ -1,2 +1,3 @@
 pub mod ContactStep
 pub mod Times
+pub mod Evaluations

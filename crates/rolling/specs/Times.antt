@@ -19,6 +19,7 @@ use Rattle.aero.specs.declared.BallModel.{BallModel}
 use Rattle.aero.specs.Aero.{radiusOf}
 use Rattle.rk4.specs.declared.Motion.{Motion}
 use Rattle.contact.specs.Contact.{slipOf, lockedOf}
+use Rattle.search.specs.Search.{Counted}
 use Rattle.search.specs.Evaluations.{Within, largest}
 use Rattle.slide.specs.declared.Patch.{Patch}
 use Rattle.rolling.specs.declared.Stepped.{Stepped}
@@ -76,9 +77,10 @@ module _ (p : Patch) where
     dt-finite : T (finiteOf dt)
     dt-finite = between-finite (dec 0 1) largest dt 0-finite (unfold round in tt) h k
 
-    finish-from : (uHat₀ : DVec3) (tau : Float) → Within (dec 0 1) dt tau → T (le (dec 0 1) (finishFrom p start t dt uHat₀ tau .time))
+    finish-from : (uHat₀ : DVec3) (root : Counted Float) → Within (dec 0 1) dt (root .0) → T (le (dec 0 1) (finishFrom p start t dt uHat₀ root .time))
     unfolding finishFrom
-    finish-from uHat₀ tau w =
+    finish-from uHat₀ root w =
+        let tau = root .0 in
         let a = within-lo (dec 0 1) dt tau w in
         let b = within-hi (dec 0 1) dt tau w in
         let tf = between-finite (dec 0 1) dt tau 0-finite dt-finite a b in

@@ -16,11 +16,12 @@ use surface::GroundSample;
 use surface::Surface;
 use vector::DVec3;
 
-// The state after a ground step, the phase over it, and whether the ball ends it rolling.
+// The state after a ground step, the phase over it, whether the ball ends it rolling, and the evaluations of its search.
 pub struct Stepped {
     pub state: BallState,
     pub phase: Phase,
     pub rolling: bool,
+    pub evaluations: u64,
 }
 
 // What stays the same over one step of a ball that rolls.
@@ -106,6 +107,7 @@ fn slide_step(
         state: next,
         phase: Phase::Slide,
         rolling: end.rolls,
+        evaluations: end.evaluations,
     }
 }
 
@@ -196,6 +198,7 @@ fn rest_after(q: RollPatch, state: BallState, vel: DVec3, heading: DVec3, w: f64
         state: rest,
         phase: Phase::Roll,
         rolling: true,
+        evaluations: 0,
     }
 }
 
@@ -283,6 +286,7 @@ fn roll_on(q: RollPatch, state: BallState, locked: Locked, dt: f64, resist: DVec
         state: next,
         phase: Phase::Roll,
         rolling: true,
+        evaluations: 0,
     }
 }
 

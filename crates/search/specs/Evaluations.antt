@@ -1,7 +1,7 @@
 -- Statements. What holds of the search whatever is evaluated: at most 200 evaluations, and the answer within the bracket. Assumes nothing.
-use Prim.Native.Nat.{ℕ, zero, suc, _≤_}
+use Prim.Native.Nat.{ℕ, zero, suc, _+_, _≤_}
 use native.Mathlib.Omega.{arith}
-use mathlib.Core.Path.{_≡_, refl}
+use mathlib.Core.Path.{_≡_, refl, ap, _∙_}
 use mathlib.Core.Bool.{Bool, true, false, cond}
 use mathlib.Core.List.{List, [], _∷_, _++_}
 use lib.Ieee.{Float, binary64, round, fits, lt, le, neg}
@@ -16,7 +16,7 @@ use Rattle.search.specs.declared.Bracket.{Bracket}
 use Rattle.search.specs.declared.Search.{Search}
 use Rattle.search.specs.declared.RootStep.{RootStep}
 use Rattle.search.specs.declared.RootStep.the-variants.{Next, Found}
-use Rattle.search.specs.Search.{Does, rootFrom, findRoot, afterStep, plain, start, middle, tolerance, inBracket, narrowed, onward, replaced, inside, chord, nextTry}
+use Rattle.search.specs.Search.{Does, rootFrom, findRoot, afterStep, plain, Counted, counting, counted, start, middle, tolerance, inBracket, narrowed, onward, replaced, inside, chord, nextTry}
 
 -- ---- the number of evaluations
 
@@ -78,6 +78,27 @@ module _ (f : Float → Float) where
   unfolding findRoot
   same-answer b guess = same-from 200 (start b guess)
 
+  abbrev one-more : Counted Float → Counted Float
+  one-more r = (r .0, 1 + r .1)
+
+  counted-from : (n : ℕ) (s : Search) → rootFrom counting (counted f) n s ≡ (rootFrom plain f n s, length (rootFrom logging (logged f) n s .1))
+  unfolding rootFrom
+  counted-from zero s = refl
+  counted-from (suc n) s =
+      by-step
+      (λ r. one-more (afterStep counting (rootFrom counting (counted f) n) r)
+      ≡ (afterStep plain (rootFrom plain f n) r, suc (length (afterStep logging (rootFrom logging (logged f) n) r .1))))
+      (λ t. ap one-more (counted-from n t) ∙ ap (λ (k : ℕ). (rootFrom plain f n t, k)) (omega arith)) (λ x. refl) (narrowed s (inBracket s) (f (inBracket s)))
+
+  -- the search that counts has the plain search's answer, and its count is the length of the logged list
+  pub counted-is-logged : (b : Bracket) (guess : Float)
+      → findRoot counting (counted f) b guess ≡ (findRoot plain f b guess, length (findRoot logging (logged f) b guess .1))
+  unfolding findRoot
+  counted-is-logged b guess = counted-from 200 (start b guess)
+
+  pub counted-at-most-200 : (b : Bracket) (guess : Float) → findRoot counting (counted f) b guess .1 ≤ 200
+  counted-at-most-200 b guess = rw (counted-is-logged b guess) (at-most-200 b guess)
+
 -- ---- the answer's place
 
 -- by value, ends included
@@ -111,8 +132,8 @@ pub record Every {m : Type 0 → Type 0} (d : Does m) : Type 1 where
   pub of-pure : {A : Type 0} (P : A → Type 0) (a : A) → P a → holds P (d .pure a)
   pub of-bind : {A B : Type 0} (P : B → Type 0) (x : m A) (k : A → m B) → ((a : A) → holds P (k a)) → holds P (d .bind x k)
 
-abbrev pub every-plain : Every plain
-every-plain = record { holds = λ P a. P a; of-pure = λ P a p. p; of-bind = λ P x k h. h x }
+abbrev pub every-counting : Every counting
+every-counting = record { holds = λ P x. P (x .0); of-pure = λ P a p. p; of-bind = λ P x k h. h (x .0) }
 
 either : {A : Type 0} (P : A → Type 0) (c : Bool) {a b : A} → (T c → P a) → P b → P (cond c a b)
 either P true p q = p tt
@@ -228,5 +249,6 @@ every-within e f b guess a g =
     from-within (b .lo) (b .hi) (a .lo-about) (a .hi-about) e f 200 (start b guess)
     (record { low = self (b .lo) (a .lo-about); ends = a .order; high = self (b .hi) (a .hi-about); lo-fits = a .lo-fits; hi-fits = a .hi-fits }, g)
 
-pub answer-within : (f : Float → Float) (b : Bracket) (guess : Float) → Ends b → T (fits binary64 guess) → Within (b .lo) (b .hi) (findRoot plain f b guess)
-answer-within = every-within every-plain
+pub answer-within : (f : Float → Float) (b : Bracket) (guess : Float) → Ends b → T (fits binary64 guess)
+    → Within (b .lo) (b .hi) (findRoot counting (counted f) b guess .0)
+answer-within f = every-within every-counting (counted f)

@@ -1,5 +1,5 @@
 -- Definitions. The bounded search for a root: ground.rs, fn find_root, over any way to evaluate.
-use Prim.Native.Nat.{ℕ, zero, suc, _-_, _<_, _≤_}
+use Prim.Native.Nat.{ℕ, zero, suc, _+_, _-_, _<_, _≤_}
 use native.Mathlib.Nat.{not-suc-le-zero}
 use native.Mathlib.Numerals.{sub-one}
 use mathlib.Core.Path.{_≡_, refl}
@@ -87,6 +87,17 @@ findRoot d f b guess = rootFrom d f mostEvaluations (start b guess)
 -- plain values, for an evaluation that does nothing else
 abbrev pub plain : Does (λ (A : Type 0). A)
 plain = record { pure = λ a. a; bind = λ a k. k a }
+
+-- a value, and how many evaluations were made on the way to it
+abbrev pub Counted : Type 0 → Type 0
+Counted A = A × ℕ
+
+abbrev pub counting : Does Counted
+counting = record { pure = λ a. (a, 0); bind = λ x k. (k (x .0) .0, x .1 + k (x .0) .1) }
+
+-- f at x, which is one evaluation
+abbrev pub counted : (Float → Float) → Float → Counted Float
+counted f x = (f x, 1)
 
 -- a loop's turn, with evaluations left: from what is left before it to what is left after it
 pub root-turn : {m : Type 0 → Type 0} (d : Does m) (f : Float → m Float) (s : Search) (n : ℕ) → 0 < n

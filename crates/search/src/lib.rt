@@ -25,6 +25,12 @@ pub enum RootStep {
     Found(f64),
 }
 
+// The root found, and how many evaluations were made to find it.
+pub struct Root {
+    pub x: f64,
+    pub evaluations: u64,
+}
+
 pub fn start_search(b: Bracket, guess: f64) -> Search
     ensures { λ r. ⌜ r ≡ start b guess ⌝ }
 {

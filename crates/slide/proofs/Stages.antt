@@ -1,5 +1,6 @@
 -- Laws over plain variables: the first stage of a turning slide, and a turn of the root search. Assumes nothing.
-use Prim.Native.Nat.{ℕ, _-_, _<_}
+use Prim.Native.Nat.{ℕ, _+_, _-_, _<_, _≤_}
+use native.Mathlib.Omega.{arith}
 use mathlib.Core.Path.{_≡_, refl, ap, sym, _∙_}
 use mathlib.Core.Bool.{Bool, true, false, cond}
 use lib.Ieee.{Float}
@@ -10,7 +11,8 @@ use Rattle.slide.specs.declared.Patch.{Patch}
 use Rattle.slide.specs.Slide.{patchSlip, slideRate, turningRate}
 use Rattle.search.specs.declared.Search.{Search}
 use Rattle.search.specs.declared.RootStep.{RootStep}
-use Rattle.search.specs.Search.{inBracket, narrowed, afterStep, rootFrom, plain, root-turn}
+use Rattle.search.specs.declared.RootStep.the-variants.{Next, Found}
+use Rattle.search.specs.Search.{Counted, counting, counted, inBracket, narrowed, afterStep, rootFrom, root-turn, root-ended}
 
 either : {A : Type 0} (b : Bool) (x : A) → cond b x x ≡ x
 either true x = refl
@@ -21,12 +23,34 @@ pub at-start : (p : Patch) (s : Motion) {u w : DVec3} {len : Float} {k : Motion}
 unfolding turningRate
 at-start p s a b d e = e ∙ simp (← a, ← b, ← d, either)
 
-pub turned :
-    (f : Float → Float) (s : Search) (n : ℕ) {x fx : Float} {r r' : RootStep} →
-    0 < n →
-    x ≡ inBracket s →
-    fx ≡ f x →
-    r ≡ narrowed s x fx →
-    r ≡ r' →
-    afterStep plain (rootFrom plain f (n - 1)) r' ≡ rootFrom plain f n s
-turned f s n l x y r e = rw (← e, r, y, x) (root-turn plain f s n l)
+-- a search that began n evaluations ago
+abbrev pub since : ℕ → Counted Float → Counted Float
+since n r = (r .0, n + r .1)
+
+since-1 : (n : ℕ) (r : Counted Float) → since (n + 1) r ≡ since n (since 1 r)
+since-1 n r = ap (λ (k : ℕ). (r .0, k)) (omega arith)
+
+pub since-0 : (r : Counted Float) → since 0 r ≡ r
+since-0 r = ap (λ (k : ℕ). (r .0, k)) (omega arith)
+
+-- n of its 200 evaluations are made, and the search goes on from s
+abbrev pub searchOn : (Float → Float) → ℕ → Search → Counted Float
+searchOn f n s = since n (rootFrom counting (counted f) (200 - n) s)
+
+-- one evaluation, and what follows from it
+module _ (f : Float → Float) (s : Search) (n : ℕ) {x fx : Float} {r : RootStep} (l : n < 200) (e : x ≡ inBracket s) (v : fx ≡ f x) (h : r ≡ narrowed s x fx) where
+  turned : {r' : RootStep} → r ≡ r' → since (n + 1) (afterStep counting (rootFrom counting (counted f) (200 - (n + 1))) r') ≡ searchOn f n s
+  turned w =
+      let m : 200 - n - 1 ≡ 200 - (n + 1) = omega arith in
+      rw (← w, h, v, e, ← m) (since-1 n _ ∙ ap (since n) (root-turn counting (counted f) s (200 - n) (omega (arith, l))))
+
+  pub goes-on : {t : Search} → r ≡ Next t → searchOn f (n + 1) t ≡ searchOn f n s
+  goes-on w = turned w
+
+  pub found : {y : Float} → r ≡ Found y → (y, n + 1) ≡ searchOn f n s
+  found {y} w = ap (λ (k : ℕ). (y, k)) (omega arith) ∙ turned w
+
+-- 200 are made
+pub ended : (f : Float → Float) (s : Search) (n : ℕ) → 200 ≤ n → (s .bracket .hi, n) ≡ searchOn f n s
+ended f s n h =
+    rw (← root-ended counting (counted f) s (200 - n) (omega (arith, h))) (ap (λ (k : ℕ). (s .bracket .hi, k)) (omega arith))

@@ -8,7 +8,7 @@ use Rattle.vector.specs.Vec.{zero3, vadd, vscale, vdivs, vdot, vcross, vlength,
 use Rattle.rk4.specs.declared.Motion.{Motion}
 use Rattle.rk4.specs.Rk4.{stepStateOf}
 use Rattle.contact.specs.Contact.{slipOf}
-use Rattle.search.specs.Search.{findRoot, plain}
+use Rattle.search.specs.Search.{findRoot, Counted, counting, counted}
 use Rattle.slide.specs.declared.Patch.{Patch}
 use Rattle.slide.specs.declared.Slid.{Slid}
 
@@ -80,8 +80,8 @@ finishOf p s t left =
     let toRoll = timeToRoll len (slipRate p uHat) in
     let h = minOf left toRoll in
     cond (le len slipEps)
-    (record { motion = s; time = dec 0 1; rolls = true })
-    (record { motion = slideFixed p s t h uHat; time = h; rolls = le toRoll left })
+    (record { motion = s; time = dec 0 1; rolls = true; evaluations = 0 })
+    (record { motion = slideFixed p s t h uHat; time = h; rolls = le toRoll left; evaluations = 0 })
 
 -- fn slide, its closure `above`: the slip speed at tau less the threshold
 unfoldable pub aboveOf : Patch → Motion → Float → DVec3 → Float → Float → Float
@@ -91,18 +91,19 @@ aboveOf p start t uHat₀ threshold tau = slipSpeed p (slideTurning p start t ta
 unfoldable pub guessOf : Float → Float → Float → Float
 guessOf over rate dt = cond (lt (dec 0 1) rate) (over ⊘ rate) dt
 
--- fn slide, `tau`: where the slip speed, s₀ at 0 and sFull at dt, reaches the threshold
-abbrev pub timeAtThreshold : Patch → Motion → Float → Float → DVec3 → Float → Float → Float → Float
+-- fn slide, `tau`: where the slip speed, s₀ at 0 and sFull at dt, reaches the threshold, and the evaluations made
+abbrev pub timeAtThreshold : Patch → Motion → Float → Float → DVec3 → Float → Float → Float → Counted Float
 timeAtThreshold p start t dt uHat₀ s₀ threshold sFull =
-    findRoot plain (aboveOf p start t uHat₀ threshold)
+    findRoot counting (counted (aboveOf p start t uHat₀ threshold))
     (record { lo = dec 0 1; «f_lo» = s₀ ⊖ threshold; hi = dt; «f_hi» = sFull ⊖ threshold })
     (guessOf (s₀ ⊖ threshold) (slipRate p uHat₀) dt)
 
 -- fn slide, from `let tau` on: slide to tau with the direction turning, then finish along the direction there
-unfoldable pub finishFrom : Patch → Motion → Float → Float → DVec3 → Float → Slid
-finishFrom p start t dt uHat₀ tau =
+unfoldable pub finishFrom : Patch → Motion → Float → Float → DVec3 → Counted Float → Slid
+finishFrom p start t dt uHat₀ root =
+    let tau = root .0 in
     let end = finishOf p (slideTurning p start t tau uHat₀) (t ⊕ tau) (dt ⊖ tau) in
-    record { motion = end .motion; time = tau ⊕ end .time; rolls = end .rolls }
+    record { motion = end .motion; time = tau ⊕ end .time; rolls = end .rolls; evaluations = root .1 }
 
 -- fn slide, from `let full` on: a full step, or the step to the threshold and on from there
 unfoldable pub slideToThreshold : Patch → Motion → Float → Float → DVec3 → Float → Float → Slid
@@ -110,14 +111,14 @@ slideToThreshold p start t dt uHat₀ s₀ threshold =
     let full = slideTurning p start t dt uHat₀ in
     let sFull = slipSpeed p full in
     cond (lt threshold sFull)
-    (record { motion = full; time = dt; rolls = false })
+    (record { motion = full; time = dt; rolls = false; evaluations = 0 })
     (finishFrom p start t dt uHat₀ (timeAtThreshold p start t dt uHat₀ s₀ threshold sFull))
 
 -- fn slide, on a slope and above the threshold: at the rate `fastest` the slip may not reach the threshold within dt
 unfoldable pub slideOnSlope : Patch → Motion → Float → Float → DVec3 → Float → Float → Slid
 slideOnSlope p start t dt uHat₀ s₀ threshold =
     cond (lt ((slipDecay p ⊕ vlength (p .«g_t»)) ⊗ dt) (s₀ ⊖ threshold))
-    (record { motion = slideTurning p start t dt uHat₀; time = dt; rolls = false })
+    (record { motion = slideTurning p start t dt uHat₀; time = dt; rolls = false; evaluations = 0 })
     (slideToThreshold p start t dt uHat₀ s₀ threshold)
 
 -- fn slide

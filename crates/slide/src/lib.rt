@@ -1,10 +1,11 @@
 // A ball that slides on one ground sample.
 ghost use mathlib.Core.Path.{_≡_};
 ghost use Rattle.vector.specs.Vec.{vlength};
-ghost use Rattle.search.specs.Search.{findRoot, plain};
+ghost use Rattle.search.specs.Search.{findRoot, counting, counted};
 ghost use Rattle.slide.specs.Slide.{slideAccel, slideSpinAccel, slideRate, fixedRate, slideFixed, patchSlip, turningRate, slideTurning, slipSpeed, slipDecay, slipRate, timeToRoll, finishOf, aboveOf, guessOf, finishFrom, slideToThreshold, slideOnSlope, slideOf};
 use rk4::Motion;
 use search::Bracket;
+use search::Root;
 use search::RootStep;
 use vector::DVec3;
 
@@ -24,11 +25,12 @@ pub struct Patch {
     pub pivot_accel: DVec3,
 }
 
-// Where a slide ends, the time it takes, and whether its slip reached zero.
+// Where a slide ends, the time it takes, whether its slip reached zero, and the evaluations of its search.
 pub struct Slid {
     pub motion: Motion,
     pub time: f64,
     pub rolls: bool,
+    pub evaluations: u64,
 }
 
 impl Patch {
@@ -165,6 +167,7 @@ fn finish(patch: Patch, s: Motion, t: f64, left: f64, u: DVec3, len: f64) -> Sli
             motion: s,
             time: 0.0,
             rolls: true,
+            evaluations: 0,
         };
     }
     let u_hat = u.div(len);
@@ -174,6 +177,7 @@ fn finish(patch: Patch, s: Motion, t: f64, left: f64, u: DVec3, len: f64) -> Sli
         motion: patch.slide_fixed(s, t, h, u_hat),
         time: h,
         rolls: to_roll <= left,
+        evaluations: 0,
     }
 }
 
@@ -201,7 +205,7 @@ fn guess_of(over: f64, rate: f64, dt: f64) -> f64
     dt
 }
 
-// The time at which the slip falls to the threshold: at most 200 evaluations.
+// The time at which the slip falls to the threshold, and the evaluations made, at most 200.
 fn time_at_threshold(
     patch: Patch,
     start: Motion,
@@ -211,30 +215,36 @@ fn time_at_threshold(
     threshold: f64,
     b: Bracket,
     guess: f64,
-) -> f64
+) -> Root
     requires { ⌜ k1 ≡ turningRate patch «u_hat0» start ⌝ }
-    ensures { λ r. ⌜ r ≡ findRoot plain (aboveOf patch start t «u_hat0» threshold) b guess ⌝ }
+    ensures { λ r. ⌜ (r .x, r .evaluations) ≡ findRoot counting (counted (aboveOf patch start t «u_hat0» threshold)) b guess ⌝ }
 {
     let mut s = search::start_search(b, guess);
-    let mut left: u64 = 200;
-    while 0 < left {
+    let mut made: u64 = 0;
+    while made < 200 {
         let x = search::in_bracket(s);
         let fx = above(patch, start, t, u_hat0, k1, threshold, x);
+        made += 1;
         let step = search::narrow(s, x, fx);
         match step {
             RootStep::Next(next) => {
                 s = next;
             }
             RootStep::Found(root) => {
-                return root;
+                return Root {
+                    x: root,
+                    evaluations: made,
+                };
             }
         }
-        left -= 1;
     }
-    s.bracket.hi
+    Root {
+        x: s.bracket.hi,
+        evaluations: made,
+    }
 }
 
-// Slide to `tau` with the slip direction turning, then finish along the direction there.
+// Slide to the root's time with the slip direction turning, then finish along the direction there.
 fn finish_from(
     patch: Patch,
     start: Motion,
@@ -242,11 +252,12 @@ fn finish_from(
     dt: f64,
     u_hat0: DVec3,
     k1: Motion,
-    tau: f64,
+    root: Root,
 ) -> Slid
     requires { ⌜ k1 ≡ turningRate patch «u_hat0» start ⌝ }
-    ensures { λ r. ⌜ r ≡ finishFrom patch start t dt «u_hat0» tau ⌝ }
+    ensures { λ r. ⌜ r ≡ finishFrom patch start t dt «u_hat0» (root .x, root .evaluations) ⌝ }
 {
+    let tau = root.x;
     let mid = patch.slide_turning(start, t, tau, u_hat0, k1);
     let u = patch.slip_of(mid);
     let end = finish(patch, mid, t + tau, dt - tau, u, u.length());
@@ -255,6 +266,7 @@ fn finish_from(
         motion,
         time: tau + end.time,
         rolls: end.rolls,
+        evaluations: root.evaluations,
     }
 }
 
@@ -279,6 +291,7 @@ fn slide_to_threshold(
             motion: full,
             time: dt,
             rolls: false,
+            evaluations: 0,
         };
     }
     let guess = guess_of(s0 - threshold, patch.slip_rate(u_hat0), dt);
@@ -288,8 +301,8 @@ fn slide_to_threshold(
         hi: dt,
         f_hi: s_full - threshold,
     };
-    let tau = time_at_threshold(patch, start, t, u_hat0, k1, threshold, b, guess);
-    finish_from(patch, start, t, dt, u_hat0, k1, tau)
+    let root = time_at_threshold(patch, start, t, u_hat0, k1, threshold, b, guess);
+    finish_from(patch, start, t, dt, u_hat0, k1, root)
 }
 
 // A slide on a slope that starts above the threshold.
@@ -313,6 +326,7 @@ fn slide_on_slope(
             motion: patch.slide_turning(start, t, dt, u_hat0, k1),
             time: dt,
             rolls: false,
+            evaluations: 0,
         };
     }
     slide_to_threshold(patch, start, t, dt, u_hat0, k1, s0, threshold)

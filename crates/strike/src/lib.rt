@@ -2,6 +2,7 @@
 ghost use mathlib.Core.Path.{_≡_};
 ghost use Rattle.course.specs.Sheet.{courseOf};
 ghost use Rattle.course.specs.Index.{Ready};
+ghost use Rattle.tally.specs.Contracts.{Bounded};
 ghost use Rattle.strike.specs.Strike.{rebounds as reboundsOf, diesOut, dropped};
 ghost use Rattle.strike.specs.Contracts.{Strikes, Flies, Drops};
 use aero::G;
@@ -126,6 +127,7 @@ pub fn fly(
     t: Tally,
 ) -> FlyOut
     requires { ⌜ Ready (now sheet) (now index) ⌝ }
+    requires { ⌜ Bounded c t ⌝ }
     ensures { λ r. ⌜ Flies (courseOf (now (sheet .entry))) c hops state hit t (now (points .entry)) r (now (points .exit)) ⌝ }
 {
     if !hops {

@@ -6,7 +6,7 @@ use mathlib.Core.Bool.{Bool, true, false}
 use Rattle.look.specs.Tree.{Oracle, exec}
 use Rattle.tally.specs.declared.Conditions.{Conditions}
 use Rattle.tally.specs.Language.{M, Outcome, goes, stops, pure, stopWith, _>>=_, stepsLeft, Pass, again, loop}
-use Rattle.tally.specs.Contracts.{Place, logAt, Runs, RunsOn, Reached, overBy}
+use Rattle.tally.specs.Contracts.{Place, logAt, Runs, RunsOn, Reached, Bounded, overBy}
 use Rattle.tally.specs.Words as Words
 use Rattle.tally.proofs.Reached.{begun, ended, on, came, said, beyond, last}
 
@@ -25,6 +25,15 @@ module _ {A B : Type 0} (o : Oracle) (c : Conditions) (late : A → Bool) (atEnd
     reached = came (said (whole c late atEnd pass a₀) (loop (c .«step_limit» - p₀ .tally .steps) late atEnd pass a₀) begun
         (Words.left-steps o _ _ _ c refl));
   }
+
+-- at most 200 evaluations a step stays so
+pub still-bounded : {A : Type 0} {o : Oracle} {m m' : M A} {a b : Place} {n : ℕ} {c : Conditions} → Reached o m a n m' b → Bounded c (a .tally)
+    → Bounded c (b .tally)
+still-bounded r h = record { limit = h .limit; work = omega (arith, r .count, r .work, h .work) }
+
+pub bounded-after : {A : Type 0} {o : Oracle} {m : M A} {a b : Place} {n : ℕ} {x : Outcome A} {c : Conditions} → Runs o m n a x b → Bounded c (a .tally)
+    → Bounded c (b .tally)
+bounded-after r h = record { limit = h .limit; work = omega (arith, r .count, r .work, h .work) }
 
 -- nothing is done
 pub stands : {A : Type 0} (o : Oracle) (v : A) (p : Place) → RunsOn o (pure v) p (goes v) p

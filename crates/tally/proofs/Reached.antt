@@ -19,7 +19,7 @@ use Rattle.records.specs.Records.{recs, null, pushed, pick, put, full, Clean}
 use Rattle.records.proofs.Laws.{recs-length, recs-zeroed, clean-zeroed, zeroed-length}
 use Rattle.tally.specs.Language.{M, Outcome, goes, stops, Ran, ran, stopWith, _>>=_, if_then_else_, when, point, contact, pointWidth}
 use Rattle.tally.specs.Language.{contactWidth, pointOf, contactOf, makeStep, look, test, pushPoint, pushContact, mark, truncate}
-use Rattle.tally.specs.Contracts.{Place, place, logAt, Runs, RunsOn, Reached, MakesStep, LooksAt, Tests, PushesPoint, PushesIf, PushesContact}
+use Rattle.tally.specs.Contracts.{Place, place, logAt, RunsBy, Runs, RunsOn, Reached, MakesStep, LooksAt, Tests, PushesPoint, PushesIf, PushesContact}
 use Rattle.tally.specs.Contracts.{Truncates}
 use Rattle.tally.specs.Lists.{stay, grow}
 use Rattle.tally.specs.Words as Words
@@ -33,13 +33,13 @@ use Rattle.tally.specs.declared.Push.the-variants.{Full, Made as Pushed}
 
 module _ {A : Type 0} {o : Oracle} {m : M A} {a : Place} where
   pub begun : Reached o m a 0 m a
-  begun = record { same = refl; count = omega arith; contacts = stay _ _ _; points = stay _ _ _ }
+  begun = record { same = refl; count = omega arith; work = omega arith; contacts = stay _ _ _; points = stay _ _ _ }
 
   module _ {n : ℕ} {b : Place} where
     -- nothing is left but the outcome
     pub ended : {x : Outcome A} → Reached o m a n (λ l. done (ran x l)) b → Runs o m n a x b
     unfolding exec
-    ended r = record { same = r .same; count = r .count; contacts = r .contacts; points = r .points }
+    ended r = record { same = r .same; count = r .count; work = r .work; contacts = r .contacts; points = r .points }
 
     -- a run makes as many steps as it counts
     pub on : {x : Outcome A} → Runs o m n a x b → RunsOn o m a x b
@@ -50,7 +50,7 @@ module _ {A : Type 0} {o : Oracle} {m : M A} {a : Place} where
 
     -- what is left, said otherwise
     pub said : (m1 m2 : M A) → Reached o m a n m1 b → exec o (b .tally .rect) (m2 (logAt b)) ≡ exec o (b .tally .rect) (m1 (logAt b)) → Reached o m a n m2 b
-    said m1 m2 r e = record { same = e ∙ r .same; count = r .count; contacts = r .contacts; points = r .points }
+    said m1 m2 r e = record { same = e ∙ r .same; count = r .count; work = r .work; contacts = r .contacts; points = r .points }
 
     -- past a call
     pub beyond : {B : Type 0} {w : M B} {m1 m2 : M A} {j : ℕ} {x : Outcome B} {b' : Place} → Reached o m a n m1 b → Runs o w j b x b'
@@ -58,6 +58,7 @@ module _ {A : Type 0} {o : Oracle} {m : M A} {a : Place} where
     beyond r h e = record {
       same = e ∙ r .same;
       count = omega (arith, h .count, r .count);
+      work = omega (arith, h .work, r .work);
       contacts = grow (r .contacts) (h .contacts);
       points = grow (r .points) (h .points);
     }
@@ -71,11 +72,32 @@ module _ {A : Type 0} {o : Oracle} {m : M A} {a : Place} where
       unfolding exec
       halted h = beyond r h (Words.halted o _ w k _ (h .same) refl)
 
+    -- past a call that makes no step but may make e evaluations, where those made so far leave room for them
+    module _ {B : Type 0} (w : M B) (k : B → M A) {e : ℕ} {b' : Place} (r : Reached o m a n (w >>= k) b)
+        (room : b .tally .evaluations + e ≤ a .tally .evaluations + 200 * n) where
+      past : {x : Outcome B} {m2 : M A} → RunsBy o w 0 e b x b' → exec o (b' .tally .rect) (m2 (logAt b')) ≡ exec o (b .tally .rect) ((w >>= k) (logAt b))
+          → Reached o m a n m2 b'
+      past h i = record {
+        same = i ∙ r .same;
+        count = omega (arith, h .count, r .count);
+        work = omega (arith, h .work, room);
+        contacts = grow (r .contacts) (h .contacts);
+        points = grow (r .points) (h .points);
+      }
+
+      pub searched : {v : B} → RunsBy o w 0 e b (goes v) b' → Reached o m a n (k v) b'
+      searched h = past h (Words.went o _ w k _ (h .same) refl refl)
+
+      pub search-halted : {i : ℕ} → RunsBy o w 0 e b (stops i) b' → Reached o m a n (stopWith i) b'
+      unfolding exec
+      search-halted h = past h (Words.halted o _ w k _ (h .same) refl)
+
     -- the last call
     pub last : {j : ℕ} {w : M A} {x : Outcome A} {b' : Place} → Reached o m a n w b → Runs o w j b x b' → Runs o m (n + j) a x b'
     last r h = record {
       same = h .same ∙ r .same;
       count = omega (arith, h .count, r .count);
+      work = omega (arith, h .work, r .work);
       contacts = grow (r .contacts) (h .contacts);
       points = grow (r .points) (h .points);
     }
@@ -102,6 +124,7 @@ module _ {A : Type 0} {o : Oracle} {m : M A} {a : Place} where
     marked k r = record {
       same = Words.marked o _ _ k (sym (recs-length pointWidth _ _)) refl ∙ r .same;
       count = r .count;
+      work = r .work;
       contacts = r .contacts;
       points = r .points;
     }
@@ -112,6 +135,7 @@ module _ {A : Type 0} {o : Oracle} {m : M A} {a : Place} where
       same = rw (zeroed-length (b .points) (i * pointWidth), recs-zeroed pointWidth i (b .tally .points) (b .points) v w)
           (Words.truncated o _ _ k i refl ∙ r .same);
       count = r .count;
+      work = r .work;
       contacts = r .contacts;
       points = record { more = u; long = zeroed-length (b .points) (i * pointWidth) ∙ r .points .long; clean = λ _. clean-zeroed pointWidth i (b .points) w };
     })
@@ -149,11 +173,15 @@ module _ {o : Oracle} {p q : Place} where
       go true t e = one-more contactWidth _ _ _ _ _ (omega arith) t (ap (λ (d : Did (Ran Unit)). d .value .log .contacts .records) e)
       go false t e = absurd (let f = ap (λ (d : Did (Ran Unit)). d .value .outcome) e in let z : _≡_ {A = ℕ} 0 1 = cc (f) in omega arith)
 
+-- a test makes no evaluation
+pub no-work-tested : (o : Oracle) (b : BallState) {t t' : Tally} {w : Tested} → Tests t b w → w ≡ Good t' → t' .evaluations ≤ t .evaluations
+no-work-tested o b h v = let r = rw v at (h o [] []) in omega (arith, r .work)
+
 -- ---- the code's words, each with the ways that it can go
 module _ {A : Type 0} {o : Oracle} {m : M A} {a : Place} {n : ℕ} {t : Tally} {lc lp : List Float} where
-  pub step-made : (s : Made) (k : Made → M A) {t' : Tally} → Reached o m a n (makeStep s >>= k) (place t lc lp) → MakesStep t t'
+  pub step-made : (s : Made) (k : Made → M A) {t' : Tally} → Reached o m a n (makeStep s >>= k) (place t lc lp) → MakesStep t (s .evaluations) t'
       → Reached o m a (n + 1) (k s) (place t' lc lp)
-  step-made s k r h = went _ k r (h o s lc lp)
+  step-made s k r h = went _ k r (h .runs o s refl lc lp)
 
   module _ (x z : Float) (k : GroundSample → M A) {w : Looked} (r : Reached o m a n (look x z >>= k) (place t lc lp)) (h : LooksAt o t x z w) where
     pub spot-seen : {s : GroundSample} {t' : Tally} → w ≡ Saw s t' → Reached o m a (n + 0) (k s) (place t' lc lp)

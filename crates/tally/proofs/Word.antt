@@ -20,7 +20,7 @@ use Rattle.records.specs.declared.Pushed.{Pushed}
 use Rattle.records.specs.declared.Pushed.the-variants.{Full, Done}
 use Rattle.tally.specs.Language.{M, Outcome, goes, stops, ran, if_then_else_, when, pointWidth, contactWidth, pointOf, contactOf, seenAt, look}
 use Rattle.tally.specs.Language.{test, pushPoint, pushContact}
-use Rattle.tally.specs.Contracts.{place, Runs, Looks, PushesIf, withRect, withContacts, withPoints}
+use Rattle.tally.specs.Contracts.{place, RunsBy, Runs, Looks, Searches, PushesIf, withRect, withSearch, withContacts, withPoints}
 use Rattle.tally.specs.Lists.{stay, pushed-grown, full-grown}
 use Rattle.tally.specs.declared.Tally.{Tally}
 use Rattle.tally.specs.declared.Push.the-variants.{Made as Put}
@@ -29,20 +29,25 @@ use Rattle.tally.specs.declared.Push.the-variants.{Made as Put}
 module _ {t : Tally} (s : BallState) {ok : Bool} (e : ok ≡ stateOk s) where
   pub tested-good : ok ≡ true → (o : Oracle) (lc lp : List Float)
       → Runs o (test s) 0 (place t lc lp) (goes s)
-      (place (record { steps = t .steps; contacts = t .contacts; points = t .points; good = s; rect = t .rect }) lc lp)
+      (place (record { steps = t .steps; evaluations = t .evaluations; contacts = t .contacts; points = t .points; good = s; rect = t .rect }) lc lp)
   unfolding test exec
-  tested-good h o lc lp = record { same = rw (← e, h); count = omega arith; contacts = stay _ _ _; points = stay _ _ _ }
+  tested-good h o lc lp = record { same = rw (← e, h); count = omega arith; work = omega arith; contacts = stay _ _ _; points = stay _ _ _ }
 
   pub tested-bad : ok ≡ false → (o : Oracle) (lc lp : List Float) → Runs o (test s) 0 (place t lc lp) (stops 22) (place t lc lp)
   unfolding test exec
-  tested-bad h o lc lp = record { same = rw (← e, h); count = omega arith; contacts = stay _ _ _; points = stay _ _ _ }
+  tested-bad h o lc lp = record { same = rw (← e, h); count = omega arith; work = omega arith; contacts = stay _ _ _; points = stay _ _ _ }
 
 -- ---- a look
 
 -- a call that only looks
 pub only-looks : {A : Type 0} {o : Oracle} {m : M A} {t t' : Tally} {q : Rect} {x : Outcome A} → Looks o (t .rect) m x q → t' ≡ withRect t q
     → (lc lp : List Float) → Runs o m 0 (place t lc lp) x (place t' lc lp)
-only-looks h e lc lp = rw e (record { same = h _; count = omega arith; contacts = stay _ _ _; points = stay _ _ _ })
+only-looks h e lc lp = rw e (record { same = h _; count = omega arith; work = omega arith; contacts = stay _ _ _; points = stay _ _ _ })
+
+-- a call that looks and searches
+pub only-searches : {A : Type 0} {o : Oracle} {m : M A} {t t' : Tally} {q : Rect} {x : Outcome A} {k : ℕ} → Searches o (t .rect) m x k q → t' ≡ withSearch t k q
+    → k ≤ 200 → (lc lp : List Float) → RunsBy o m 0 200 (place t lc lp) x (place t' lc lp)
+only-searches h e i lc lp = rw e (record { same = h _; count = omega arith; work = omega (arith, i); contacts = stay _ _ _; points = stay _ _ _ })
 
 -- a spot that fails its test leaves the rectangle as it was
 not-widened : (o : Oracle) (r : Rect) (x z : Float) {w : Look} {q : Rect} → did w q ≡ exec o r (lookTree x z) → w ≡ Off → q ≡ r
@@ -73,6 +78,7 @@ module _ {t : Tally} {l m : List Float} (s : BallState) (f : Phase) {p : Pushed}
   point-pushed n v e o lc = rw e (record {
     same = rw (← h .same, v, n);
     count = omega arith;
+    work = omega arith;
     contacts = stay _ _ _;
     points = pushed-grown _ _ _ _ _ n (rw v at (h .kept));
   })
@@ -80,7 +86,7 @@ module _ {t : Tally} {l m : List Float} (s : BallState) (f : Phase) {p : Pushed}
   pub no-point : p ≡ Full → (o : Oracle) (lc : List Float) → Runs o (pushPoint s f) 0 (place t lc l) (stops 21) (place t lc m)
   unfolding pushPoint exec
   no-point v o lc = let k : m ≡ l = rw v at (h .kept) in record
-      { same = rw (← h .same, v, k); count = omega arith; contacts = stay _ _ _; points = full-grown _ _ _ _ k }
+      { same = rw (← h .same, v, k); count = omega arith; work = omega arith; contacts = stay _ _ _; points = full-grown _ _ _ _ k }
 
 module _ {t : Tally} {l m : List Float} (a : BallState) (s : GroundSample) (b : BallState) {p : Pushed}
     (h : Pushes contactWidth (t .contacts) l (contactOf a s b) p m) where
@@ -90,6 +96,7 @@ module _ {t : Tally} {l m : List Float} (a : BallState) (s : GroundSample) (b : 
   contact-pushed n v e o lp = rw e (record {
     same = rw (← h .same, v, n);
     count = omega arith;
+    work = omega arith;
     contacts = pushed-grown _ _ _ _ _ n (rw v at (h .kept));
     points = stay _ _ _;
   })
@@ -97,9 +104,9 @@ module _ {t : Tally} {l m : List Float} (a : BallState) (s : GroundSample) (b : 
   pub no-contact : p ≡ Full → (o : Oracle) (lp : List Float) → Runs o (pushContact a s b) 0 (place t l lp) (stops 20) (place t m lp)
   unfolding pushContact exec
   no-contact v o lp = let k : m ≡ l = rw v at (h .kept) in record
-      { same = rw (← h .same, v, k); count = omega arith; contacts = full-grown _ _ _ _ k; points = stay _ _ _ }
+      { same = rw (← h .same, v, k); count = omega arith; work = omega arith; contacts = full-grown _ _ _ _ k; points = stay _ _ _ }
 
 -- ---- no point is due
 pub not-due : (t : Tally) (l : List Float) (s : BallState) (f : Phase) → PushesIf false t l s f (Put t) l
 unfolding when exec
-not-due t l s f o lc = record { same = refl; count = omega arith; contacts = stay _ _ _; points = stay _ _ _ }
+not-due t l s f o lc = record { same = refl; count = omega arith; work = omega arith; contacts = stay _ _ _; points = stay _ _ _ }

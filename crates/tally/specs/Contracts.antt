@@ -12,7 +12,8 @@ use Rattle.look.specs.Rect.{noRect}
 use Rattle.look.specs.Tree.{Made, Oracle, exec, did}
 use Rattle.look.specs.declared.Rect.{Rect}
 use Rattle.records.specs.Records.{recs, zeroed, Clean}
-use Rattle.tally.specs.Language.{M, Lent, Log, Outcome, goes, stops, ran, Pass, over, when, pointWidth, contactWidth, makeStep, look, test}
+use Rattle.tally.specs.Language.{M, Lent, Log, Outcome, goes, stops, ran, Pass, over, when, pointWidth, contactWidth, evaluated, makeStep, look, test}
+use Rattle.tally.specs.declared.Conditions.{Conditions}
 use Rattle.tally.specs.Language.{pushPoint, pushContact}
 use Rattle.tally.specs.declared.Tally.{Tally}
 use Rattle.tally.specs.declared.Looked.{Looked}
@@ -26,16 +27,20 @@ use Rattle.tally.specs.declared.Push.the-variants.{Full, Made as Pushed}
 
 -- before the first look
 abbrev pub firstTally : BallState → Tally
-firstTally b = record { steps = 0; contacts = 0; points = 0; good = b; rect = noRect }
+firstTally b = record { steps = 0; evaluations = 0; contacts = 0; points = 0; good = b; rect = noRect }
 
 abbrev pub withRect : Tally → Rect → Tally
-withRect t q = record { steps = t .steps; contacts = t .contacts; points = t .points; good = t .good; rect = q }
+withRect t q = record { steps = t .steps; evaluations = t .evaluations; contacts = t .contacts; points = t .points; good = t .good; rect = q }
+
+-- another rectangle, and k evaluations more: what a search changes
+abbrev pub withSearch : Tally → ℕ → Rect → Tally
+withSearch t k q = record { steps = t .steps; evaluations = t .evaluations + k; contacts = t .contacts; points = t .points; good = t .good; rect = q }
 
 abbrev pub withContacts : Tally → ℕ → Tally
-withContacts t n = record { steps = t .steps; contacts = n; points = t .points; good = t .good; rect = t .rect }
+withContacts t n = record { steps = t .steps; evaluations = t .evaluations; contacts = n; points = t .points; good = t .good; rect = t .rect }
 
 abbrev pub withPoints : Tally → ℕ → Tally
-withPoints t n = record { steps = t .steps; contacts = t .contacts; points = n; good = t .good; rect = t .rect }
+withPoints t n = record { steps = t .steps; evaluations = t .evaluations; contacts = t .contacts; points = n; good = t .good; rect = t .rect }
 
 -- ---- where a run stands
 
@@ -56,6 +61,7 @@ lent w n l = record { room = length l / w; records = recs w n l }
 abbrev pub logAt : Place → Log
 logAt p = record {
   steps = p .tally .steps;
+  evaluations = p .tally .evaluations;
   contacts = lent contactWidth (p .tally .contacts) (p .contacts);
   points = lent pointWidth (p .tally .points) (p .points);
   good = p .tally .good;
@@ -69,12 +75,17 @@ pub record Grown (w n : ℕ) (l : List Float) (k : ℕ) (m : List Float) : Type 
   pub long : length m ≡ length l
   pub clean : Clean w n l → Clean w k m
 
--- a call that the definition's part m is of: from place a it comes to place b by n steps, with outcome x
-pub record Runs {A : Type 0} (o : Oracle) (m : M A) (n : ℕ) (a : Place) (x : Outcome A) (b : Place) : Type 0 where
+-- a call that the definition's part m is of: from place a it comes to place b by n steps and at most e evaluations, with outcome x
+pub record RunsBy {A : Type 0} (o : Oracle) (m : M A) (n e : ℕ) (a : Place) (x : Outcome A) (b : Place) : Type 0 where
   pub same : did (ran x (logAt b)) (b .tally .rect) ≡ exec o (a .tally .rect) (m (logAt a))
   pub count : b .tally .steps ≡ a .tally .steps + n
+  pub work : b .tally .evaluations ≤ a .tally .evaluations + e
   pub contacts : Grown contactWidth (a .tally .contacts) (a .contacts) (b .tally .contacts) (b .contacts)
   pub points : Grown pointWidth (a .tally .points) (a .points) (b .tally .points) (b .points)
+
+-- at most 200 evaluations a step
+abbrev pub Runs : {A : Type 0} → Oracle → M A → ℕ → Place → Outcome A → Place → Type 0
+Runs o m n a x b = RunsBy o m n (200 * n) a x b
 
 -- the same, of a call that makes as many steps as it counts
 abbrev pub RunsOn : {A : Type 0} → Oracle → M A → Place → Outcome A → Place → Type 0
@@ -84,12 +95,22 @@ RunsOn o m a x b = Runs o m (b .tally .steps - a .tally .steps) a x b
 pub record Reached {A : Type 0} (o : Oracle) (m : M A) (a : Place) (n : ℕ) (m' : M A) (b : Place) : Type 0 where
   pub same : exec o (b .tally .rect) (m' (logAt b)) ≡ exec o (a .tally .rect) (m (logAt a))
   pub count : b .tally .steps ≡ a .tally .steps + n
+  pub work : b .tally .evaluations ≤ a .tally .evaluations + 200 * n
   pub contacts : Grown contactWidth (a .tally .contacts) (a .contacts) (b .tally .contacts) (b .contacts)
   pub points : Grown pointWidth (a .tally .points) (a .points) (b .tally .points) (b .points)
 
 -- a call that only looks: from rectangle q to q', its outcome is the definition's and the log stays as it is
 abbrev pub Looks : {A : Type 0} → Oracle → Rect → M A → Outcome A → Rect → Type 0
 Looks o q m x q' = (l : Log) → did (ran x l) q' ≡ exec o q (m l)
+
+-- a call that looks and makes k evaluations of a search: nothing else of the log changes
+abbrev pub Searches : {A : Type 0} → Oracle → Rect → M A → Outcome A → ℕ → Rect → Type 0
+Searches o q m x k q' = (l : Log) → did (ran x (evaluated k l)) q' ≡ exec o q (m l)
+
+-- what keeps the counts below 2^64. 01, 4: "step_limit 1..2,000,000"
+pub record Bounded (c : Conditions) (t : Tally) : Type 0 where
+  pub limit : c .«step_limit» ≤ 2000000
+  pub work : t .evaluations ≤ 200 * t .steps
 
 -- a pass that ends its loop, or a stop
 abbrev pub overBy : {A B : Type 0} → Outcome B → Outcome (Pass A B)
@@ -108,8 +129,10 @@ Loops o m late left a (dueWith g) b = (late g ≡ false) × Reached o m a (b .ta
 
 -- ---- the words; a list that a word does not touch may be any
 
-abbrev pub MakesStep : Tally → Tally → Type 0
-MakesStep t t' = (o : Oracle) (s : Made) (lc lp : List Float) → Runs o (makeStep s) 1 (place t lc lp) (goes s) (place t' lc lp)
+-- with the k evaluations of its search
+pub record MakesStep (t : Tally) (k : ℕ) (t' : Tally) : Type 0 where
+  pub work : t' .evaluations ≡ t .evaluations + k
+  pub runs : (o : Oracle) (s : Made) → s .evaluations ≡ k → (lc lp : List Float) → Runs o (makeStep s) 1 (place t lc lp) (goes s) (place t' lc lp)
 
 -- what each answers, and the tally it leaves; where a word stops the tally stays as it is
 abbrev pub sawBy : Looked → Outcome GroundSample

@@ -26,9 +26,10 @@ pub record Lent : Type 0 where
   pub room : ℕ
   pub records : Records
 
--- the steps made, both lists, the last state that passed its test
+-- the steps made, the evaluations of their root searches, both lists, the last state that passed its test
 pub record Log : Type 0 where
   pub steps : ℕ
+  pub evaluations : ℕ
   pub contacts : Lent
   pub points : Lent
   pub good : BallState
@@ -104,17 +105,33 @@ contactOf a s b =
     ∷ a .spin .x ∷ a .spin .y ∷ a .spin .z ∷ b .spin .x ∷ b .spin .y ∷ b .spin .z ∷ []
 
 -- ---- changes of the log
-abbrev pub stepped : Log → Log
-stepped l = record { steps = l .steps + 1; contacts = l .contacts; points = l .points; good = l .good }
+abbrev pub stepped : Made → Log → Log
+stepped s l = record { steps = l .steps + 1; evaluations = l .evaluations + s .evaluations; contacts = l .contacts; points = l .points; good = l .good }
+
+-- n evaluations more
+abbrev pub evaluated : ℕ → Log → Log
+evaluated n l = record { steps = l .steps; evaluations = l .evaluations + n; contacts = l .contacts; points = l .points; good = l .good }
 
 abbrev pub tested : BallState → Log → Log
-tested s l = record { steps = l .steps; contacts = l .contacts; points = l .points; good = s }
+tested s l = record { steps = l .steps; evaluations = l .evaluations; contacts = l .contacts; points = l .points; good = s }
 
 abbrev pub withPoints : Records → Log → Log
-withPoints rs l = record { steps = l .steps; contacts = l .contacts; points = record { room = l .points .room; records = rs }; good = l .good }
+withPoints rs l = record {
+  steps = l .steps;
+  evaluations = l .evaluations;
+  contacts = l .contacts;
+  points = record { room = l .points .room; records = rs };
+  good = l .good;
+}
 
 abbrev pub withContacts : Records → Log → Log
-withContacts rs l = record { steps = l .steps; contacts = record { room = l .contacts .room; records = rs }; points = l .points; good = l .good }
+withContacts rs l = record {
+  steps = l .steps;
+  evaluations = l .evaluations;
+  contacts = record { room = l .contacts .room; records = rs };
+  points = l .points;
+  good = l .good;
+}
 
 -- 22 where the spot failed its test
 abbrev pub seenAt : Look → M GroundSample
@@ -135,12 +152,22 @@ contact (put rs) l = pure tt (withContacts rs l)
 
 -- step. 01: "one step is one pass that makes a hop step or a contact step, counted once that is made".
 -- What a step made is had of this word, which counts it: no step goes uncounted, and no count is without its step.
+-- The evaluations that a contact step made are counted with it.
 unfoldable pub makeStep : Made → M Made
-makeStep s l = step s (pure s (stepped l))
+makeStep s l = step s (pure s (stepped s l))
 
 -- look, at the spot (x, z). 01: "Before each look x and z get the same test"; a look whose spot fails it is not made
 unfoldable pub look : Float → Float → M GroundSample
 look x z l = bind (lookTree x z) (λ s. seenAt s l)
+
+-- evaluation, one call of the function f whose root find_root seeks. It is counted as it is made: one whose look is stopped by 22 is counted too
+unfoldable pub countEvaluation : M Unit
+countEvaluation l = pure tt (evaluated 1 l)
+
+abbrev pub evaluate : (Float → M Float) → Float → M Float
+evaluate f x = do
+  countEvaluation
+  f x
 
 -- test 22 of a state. 01: "final state the last that passed its test"
 unfoldable pub test : BallState → M BallState

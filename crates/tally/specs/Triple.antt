@@ -18,7 +18,7 @@ use Rattle.look.specs.Resume.{steps as stepsOf}
 use Rattle.records.specs.Records.{Records, pushed}
 use Rattle.state.specs.State.{stateOk}
 use Rattle.tally.specs.Language.{M, Lent, Log, Outcome, goes, stops, Ran, onward, _>>=_, if_then_else_, pointOf, contactOf}
-use Rattle.tally.specs.Language.{stepped, tested, withPoints, withContacts, seenAt, point, contact, Pass, again, over}
+use Rattle.tally.specs.Language.{stepped, evaluated, countEvaluation, tested, withPoints, withContacts, seenAt, point, contact, Pass, again, over}
 use Rattle.tally.specs.Language.{pure, stopWith, when, look, test, pushPoint, pushContact, mark, truncate, makeStep, stepsLeft, loop}
 use Rattle.tally.specs.declared.Conditions.{Conditions}
 
@@ -60,8 +60,12 @@ touched a s b w = withLog (withContacts (w .log .contacts .records ++ (contactOf
 abbrev pub cutTo : ℕ → Past → Past
 cutTo n w = withLog (withPoints (take n (w .log .points .records)) (w .log)) w
 
-abbrev pub stepMade : Past → Past
-stepMade w = past (stepped (w .log)) (suc (w .made)) (w .spots) (w .off)
+abbrev pub stepMade : Made → Past → Past
+stepMade s w = past (stepped s (w .log)) (suc (w .made)) (w .spots) (w .off)
+
+-- an evaluation was counted
+abbrev pub evaluatedOnce : Past → Past
+evaluatedOnce w = withLog (evaluated 1 (w .log)) w
 
 -- a lent list has room for a record more, or has none
 abbrev pub HasRoom : Lent → Type 0
@@ -257,7 +261,7 @@ module _ {o : Oracle} where
     t-truncate n f = record { all = f }
 
     -- a step is made, and counted
-    pub t-step : {Q : Made → Past → Type 0} (s : Made) → ((w : Past) → P w → Q s (stepMade w)) → Triple o P (makeStep s) Q R
+    pub t-step : {Q : Made → Past → Type 0} (s : Made) → ((w : Past) → P w → Q s (stepMade s w)) → Triple o P (makeStep s) Q R
     unfolding makeStep reach
     t-step s f = record { all = f }
 
@@ -265,7 +269,12 @@ module _ {o : Oracle} where
     pub t-made : {Q : Past → Type 0} {B : Type 0} {S : B → Past → Type 0} (s : Made) (k : Made → M B)
         → Triple o P (makeStep s) (λ _. Q) R → Triple o Q (k s) S R → Triple o P (makeStep s >>= k) S R
     unfolding makeStep _>>=_ bind reach
-    t-made s k t g = record { all = λ w p. g .all (stepMade w) (t .all w p) }
+    t-made s k t g = record { all = λ w p. g .all (stepMade s w) (t .all w p) }
+
+    -- an evaluation is counted
+    pub t-evaluation : {Q : Unit → Past → Type 0} → ((w : Past) → P w → Q tt (evaluatedOnce w)) → Triple o P countEvaluation Q R
+    unfolding countEvaluation reach
+    t-evaluation f = record { all = f }
 
     pub t-left : {Q : ℕ → Past → Type 0} (c : Conditions) → ((w : Past) → P w → Q (c .«step_limit» - w .log .steps) w) → Triple o P (stepsLeft c) Q R
     unfolding stepsLeft reach
@@ -274,6 +283,15 @@ module _ {o : Oracle} where
     pub t-when : {Q : Unit → Past → Type 0} {m : M Unit} (b : Bool) → Triple o P m Q R → ((w : Past) → P w → Q tt w) → Triple o P (when b m) Q R
     unfolding when
     t-when b t f = t-if b (λ _. t) (λ _. t-pure f)
+
+  -- two facts of one part
+  pub t-and : {A : Type 0} {P P' : Past → Type 0} {m : M A} {Q Q' : A → Past → Type 0} {R R' : ℕ → Past → Type 0}
+      → Triple o P m Q R → Triple o P' m Q' R' → Triple o (λ w. P w × P' w) m (λ a w. Q a w × Q' a w) (λ n w. R n w × R' n w)
+  t-and {A} {m = m} {Q} {Q'} {R} {R'} t u = record { all = λ w p. go (reaches o m w .outcome) _ (t .all w (p .0)) (u .all w (p .1)) }
+    where
+      go : (x : Outcome A) (w : Past) → After Q R x w → After Q' R' x w → After (λ a w. Q a w × Q' a w) (λ n w. R n w × R' n w) x w
+      go (goes a) w q q' = (q, q')
+      go (stops n) w q q' = (q, q')
 
   -- nothing is asked, and nothing said
   pub t-any : {A : Type 0} {P : Past → Type 0} (m : M A) → Triple o P m (λ _ _. Unit {0}) (λ _ _. Unit {0})

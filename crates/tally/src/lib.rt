@@ -1,13 +1,13 @@
 // What a settle carries along, and the words in which it runs: a step, a look, a test, a push (01's terms), each from a tally to the next.
 ghost use mathlib.Core.Path.{_≡_};
-ghost use Prim.Native.Nat.{_<_, _≤_, _*_};
+ghost use Prim.Native.Nat.{_<_, _≤_, _+_, _*_};
 ghost use lib.ListN.{length};
 ghost use Rattle.course.specs.Sheet.{courseOf};
 ghost use Rattle.course.specs.Index.{Ready};
 ghost use Rattle.records.specs.Records.{Pushes};
 ghost use Rattle.tally.specs.Times.{isLate, isDue, nextAfter};
 ghost use Rattle.tally.specs.Language.{phaseNumber, pointWidth, contactWidth, pointOf, contactOf};
-ghost use Rattle.tally.specs.Contracts.{firstTally, MakesStep, LooksAt, Tests, PushesPoint, PushesIf, PushesContact, Truncates, withContacts, withPoints, withRect};
+ghost use Rattle.tally.specs.Contracts.{firstTally, MakesStep, LooksAt, Tests, PushesPoint, PushesIf, PushesContact, Truncates, withContacts, withPoints, withRect, withSearch};
 use aero::BallModel;
 use look::Look;
 use look::Rect;
@@ -60,9 +60,11 @@ pub fn next_after(due: bool, next: f64, from: f64) -> f64
 
 // ---- the tally
 
-// The steps made, the contacts and points pushed, the last state that passed its test, the rectangle of the looks.
+// The steps made, the evaluations of their root searches, the contacts and points pushed, the last state that passed its test, the rectangle
+// of the looks.
 pub struct Tally {
     pub steps: u64,
+    pub evaluations: u64,
     pub contacts: usize,
     pub points: usize,
     pub good: BallState,
@@ -75,6 +77,7 @@ pub fn first_tally(landing: BallState) -> Tally
 {
     Tally {
         steps: 0,
+        evaluations: 0,
         contacts: 0,
         points: 0,
         good: landing,
@@ -84,15 +87,16 @@ pub fn first_tally(landing: BallState) -> Tally
 
 // ---- a step
 
-// A step was made, and is counted.
-pub fn count_step(t: Tally) -> Tally
-    requires { ⌜ t .steps < 18446744073709551615 ⌝ }
-    ensures { λ r. ⌜ MakesStep t r ⌝ }
+// A step was made, and is counted, with the evaluations of its search.
+pub fn count_step(t: Tally, evaluations: u64) -> Tally
+    requires { ⌜ (t .steps < 2000000) × ((t .evaluations ≤ 200 * t .steps) × (evaluations ≤ 200)) ⌝ }
+    ensures { λ r. ⌜ MakesStep t evaluations r ⌝ }
 {
     let good = t.good;
     let rect = t.rect;
     Tally {
         steps: t.steps + 1,
+        evaluations: t.evaluations + evaluations,
         contacts: t.contacts,
         points: t.points,
         good,
@@ -115,6 +119,23 @@ pub fn with_rect(t: Tally, rect: Rect) -> Tally
     let good = t.good;
     Tally {
         steps: t.steps,
+        evaluations: t.evaluations,
+        contacts: t.contacts,
+        points: t.points,
+        good,
+        rect,
+    }
+}
+
+// The tally after a search: another rectangle, and the evaluations made.
+pub fn with_search(t: Tally, evaluations: u64, rect: Rect) -> Tally
+    requires { ⌜ t .evaluations + evaluations ≤ 18446744073709551615 ⌝ }
+    ensures { λ r. ⌜ r ≡ withSearch t evaluations rect ⌝ }
+{
+    let good = t.good;
+    Tally {
+        steps: t.steps,
+        evaluations: t.evaluations + evaluations,
         contacts: t.contacts,
         points: t.points,
         good,
@@ -151,6 +172,7 @@ pub fn test(t: Tally, s: BallState) -> Tested
         let rect = t.rect;
         Tested::Good(Tally {
             steps: t.steps,
+            evaluations: t.evaluations,
             contacts: t.contacts,
             points: t.points,
             good: s,
@@ -176,6 +198,7 @@ fn with_contacts(t: Tally, n: usize) -> Tally
     let rect = t.rect;
     Tally {
         steps: t.steps,
+        evaluations: t.evaluations,
         contacts: n,
         points: t.points,
         good,
@@ -190,6 +213,7 @@ fn with_points(t: Tally, n: usize) -> Tally
     let rect = t.rect;
     Tally {
         steps: t.steps,
+        evaluations: t.evaluations,
         contacts: t.contacts,
         points: n,
         good,

@@ -1,6 +1,6 @@
 // The train of impacts, and then the ground: the first loop of settle of ground.rs, with the tests and the count of 01.
 ghost use mathlib.Core.Path.{_≡_};
-ghost use Prim.Native.Nat.{_<_};
+ghost use Prim.Native.Nat.{_<_, _≤_};
 ghost use Rattle.course.specs.Sheet.{courseOf};
 ghost use Rattle.course.specs.Index.{Ready};
 ghost use Rattle.train.specs.Contracts.{LastImpacts, TrainRuns, isLast};
@@ -66,6 +66,7 @@ pub fn run(
     landing: BallState,
 ) -> RunOut
     requires { ⌜ Ready (now sheet) (now index) ⌝ }
+    requires { ⌜ c .«step_limit» ≤ 2000000 ⌝ }
     ensures { λ r. ⌜ TrainRuns (courseOf (now (sheet .entry))) c landing (now (contacts .entry)) (now (points .entry)) r (now (contacts .exit)) (now (points .exit)) ⌝ }
 {
     let physics = c.physics;

@@ -1,9 +1,11 @@
 -- The value at the bracket's end, the height at the step's end, and the root.
 use borrow.Author.Needs.{needs}
+use native.Mathlib.Omega.{arith}
 use mathlib.Core.Path.{ap}
 use Rattle.tally.specs.Words.{went, halted, look-saw, look-off}
 use Rattle.arrival.specs.Arrival.{crossingTime}
 use Rattle.arrival.specs.Contracts.{valueBy}
+use Rattle.arrival.proofs.Turns.{unsearched}
 use Rattle.arrival.proofs.crossing_time.Statement.{statement}
 use Rattle.arrival.proofs.crossing_time.Tie as tie
 
@@ -20,7 +22,7 @@ returns : tie.Need-returns
 unfolding crossingTime
 returns c =
     let at-end-value = c .before .before .before in
-    λ l. halted _ _ _ _ l (at-end-value .end-value .ensures l) (ap valueBy (c .enum-told .given .1))
+    (unsearched _ _ _ (λ l. halted _ _ _ _ l (at-end-value .end-value .ensures l) (ap valueBy (c .enum-told .given .1))), omega arith)
 
 look-at-requires : tie.Need-look-at-requires
 look-at-requires c κs =
@@ -40,9 +42,9 @@ returns-2 c =
     let at-look-at = c .before .before .before in
     let at-what = at-look-at .before .before .before .before in
     let at-end-value = at-what .before .before .before in
-    λ l.
+    (unsearched _ _ _ (λ l.
     went _ _ _ _ l (at-end-value .end-value .ensures l) (ap valueBy (at-what .what .given .1))
-    (look-off _ _ _ _ _ _ (rw (at-look-at .before .before .arc-at .ensures) at (at-look-at .look-at .ensures)) (c .enum-told2 .given .1))
+    (look-off _ _ _ _ _ _ (rw (at-look-at .before .before .arc-at .ensures) at (at-look-at .look-at .ensures)) (c .enum-told2 .given .1))), omega arith)
 
 find-root-requires : tie.Need-find-root-requires
 find-root-requires c κs =
@@ -58,10 +60,10 @@ returns-3 c =
     let at-look-at = at-under .before .before .before in
     let at-what = at-look-at .before .before .before .before in
     let at-end-value = at-what .before .before .before in
-    λ l.
+    (λ l.
     went _ _ _ _ l (at-end-value .end-value .ensures l) (ap valueBy (at-what .what .given .1))
     (look-saw _ _ _ _ _ _ (rw (at-look-at .before .before .arc-at .ensures) at (at-look-at .look-at .ensures)) (at-under .under .given .1)
-    (rw (← c .before .before .ending-at .ensures, ← c .before .guess-in .ensures) (c .find-root .ensures l)))
+    (rw (← c .before .before .ending-at .ensures, ← c .before .guess-in .ensures) (c .find-root .ensures .0 l))), c .find-root .ensures .1)
 
 pub crossing-time-spec : {M : Type 1} → statement M
 crossing-time-spec =

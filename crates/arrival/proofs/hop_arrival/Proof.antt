@@ -1,11 +1,13 @@
 -- The looks of an arrival, in order.
 use borrow.Author.Needs.{needs}
+use native.Mathlib.Omega.{arith}
 use lib.Ieee.{ofBits, round}
 use mathlib.Core.Path.{refl, ap}
 use Rattle.look.specs.Tree.{exec}
 use Rattle.tally.specs.Words.{went, halted, look-saw, look-off}
 use Rattle.arrival.specs.Arrival.{hopArrival}
 use Rattle.arrival.specs.Contracts.{valueBy, crossingBy}
+use Rattle.arrival.proofs.Turns.{ends-pure, unsearched}
 use Rattle.arrival.proofs.hop_arrival.Statement.{statement}
 use Rattle.arrival.proofs.hop_arrival.Tie as tie
 
@@ -22,7 +24,7 @@ returns : tie.Need-returns
 unfolding hopArrival ofBits round
 returns c =
     let at-clearance-at = c .before .before .before in
-    λ l. halted _ _ _ _ l (at-clearance-at .clearance-at .ensures l) (ap valueBy (c .enum-told .given .1))
+    (unsearched _ _ _ (λ l. halted _ _ _ _ l (at-clearance-at .clearance-at .ensures l) (ap valueBy (c .enum-told .given .1))), omega arith)
 
 first-crossing-requires : tie.Need-first-crossing-requires
 first-crossing-requires c κs =
@@ -57,10 +59,10 @@ returns-2 c =
     let at-crossing-time = c .before .before .before in
     let at-first-crossing = at-crossing-time .before .before .before .before .before in
     let at-clearance-at = at-first-crossing .before .before .before .before .before in
-    λ l.
+    (λ l.
     went _ _ _ _ l (at-clearance-at .clearance-at .ensures l) (ap valueBy (at-first-crossing .before .before .what .given .1))
     (went _ _ _ _ l (at-first-crossing .first-crossing .ensures l) (ap crossingBy (at-crossing-time .before .before .how .given .1))
-    (halted _ _ _ _ l (at-crossing-time .crossing-time .ensures l) (ap valueBy (c .enum-told4 .given .1))))
+    (halted _ _ _ _ l (at-crossing-time .crossing-time .ensures .0 l) (ap valueBy (c .enum-told4 .given .1)))), at-crossing-time .crossing-time .ensures .1)
 
 look-at-requires : tie.Need-look-at-requires
 look-at-requires c κs =
@@ -84,29 +86,30 @@ returns-3 c =
     let at-crossing-time = at-time .before .before .before in
     let at-first-crossing = at-crossing-time .before .before .before .before .before in
     let at-clearance-at = at-first-crossing .before .before .before .before .before in
-    λ l.
+    (λ l.
     went _ _ _ _ l (at-clearance-at .clearance-at .ensures l) (ap valueBy (at-first-crossing .before .before .what .given .1))
     (went _ _ _ _ l (at-first-crossing .first-crossing .ensures l) (ap crossingBy (at-crossing-time .before .before .how .given .1))
-    (went _ _ _ _ l (at-crossing-time .crossing-time .ensures l) (ap valueBy (at-time .time .given .1))
-    (look-off _ _ _ _ _ _ (rw (at-look-at .before .before .arc-at .ensures) at (at-look-at .look-at .ensures)) (c .enum-told5 .given .1))))
+    (went _ _ _ _ l (at-crossing-time .crossing-time .ensures .0 l) (ap valueBy (at-time .time .given .1))
+    (look-off _ _ _ _ _ _ (rw (at-look-at .before .before .arc-at .ensures) at (at-look-at .look-at .ensures)) (c .enum-told5 .given .1)))),
+    at-crossing-time .crossing-time .ensures .1)
 
 returns-4 : tie.Need-returns-4
 unfolding hopArrival ofBits round
 returns-4 c =
     let at-first-crossing = c .before .before .before in
     let at-clearance-at = at-first-crossing .before .before .before .before .before in
-    λ l.
+    (unsearched _ _ _ (λ l.
     went _ _ _ _ l (at-clearance-at .clearance-at .ensures l) (ap valueBy (at-first-crossing .before .before .what .given .1))
-    (halted _ _ _ _ l (at-first-crossing .first-crossing .ensures l) (ap crossingBy (c .enum-told2 .given .1)))
+    (halted _ _ _ _ l (at-first-crossing .first-crossing .ensures l) (ap crossingBy (c .enum-told2 .given .1)))), omega arith)
 
 returns-5 : tie.Need-returns-5
-unfolding hopArrival ofBits round exec
+unfolding hopArrival ofBits round
 returns-5 c =
     let at-first-crossing = c .before .before .before in
     let at-clearance-at = at-first-crossing .before .before .before .before .before in
-    λ l.
+    (unsearched _ _ _ (λ l.
     went _ _ _ _ l (at-clearance-at .clearance-at .ensures l) (ap valueBy (at-first-crossing .before .before .what .given .1))
-    (went _ _ _ _ l (at-first-crossing .first-crossing .ensures l) (ap crossingBy (c .enum-told3 .given .1)) refl)
+    (went _ _ _ _ l (at-first-crossing .first-crossing .ensures l) (ap crossingBy (c .enum-told3 .given .1)) (ends-pure _ _ _ l))), omega arith)
 
 returns-6 : tie.Need-returns-6
 unfolding hopArrival ofBits round exec
@@ -116,12 +119,12 @@ returns-6 c =
     let at-crossing-time = at-time .before .before .before in
     let at-first-crossing = at-crossing-time .before .before .before .before .before in
     let at-clearance-at = at-first-crossing .before .before .before .before .before in
-    λ l.
+    (λ l.
     went _ _ _ _ l (at-clearance-at .clearance-at .ensures l) (ap valueBy (at-first-crossing .before .before .what .given .1))
     (went _ _ _ _ l (at-first-crossing .first-crossing .ensures l) (ap crossingBy (at-crossing-time .before .before .how .given .1))
-    (went _ _ _ _ l (at-crossing-time .crossing-time .ensures l) (ap valueBy (at-time .time .given .1))
+    (went _ _ _ _ l (at-crossing-time .crossing-time .ensures .0 l) (ap valueBy (at-time .time .given .1))
     (look-saw _ _ _ _ _ _ (rw (at-look-at .before .before .arc-at .ensures) at (at-look-at .look-at .ensures)) (c .before .before .under .given .1)
-    (rw (c .place .ensures, at-look-at .before .before .arc-at .ensures)))))
+    (rw (c .place .ensures, at-look-at .before .before .arc-at .ensures))))), at-crossing-time .crossing-time .ensures .1)
 
 pub hop-arrival-spec : {M : Type 1} → statement M
 hop-arrival-spec =

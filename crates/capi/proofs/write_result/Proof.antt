@@ -7,12 +7,19 @@ use Rattle.capi.proofs.write_result.Tie as tie
 
 returns : tie.Need-returns
 unfolding reported
-returns c = rw (lt-leb 19 _ (c .if1 .taken))
+returns c = rw (lt-leb 20 _ (c .if1 .taken))
 
 returns-2 : tie.Need-returns-2
 unfolding reported
 returns-2 c =
-    rw (le-leb 19 _ (c .before .before .before .before .before .before .before .before .before .before .before .before .before .before .before .before .before .if1 .left), c .before .before .put .ensures, c .before .before .before .before .before .before .before .before .before .before .whole .ensures, c .before .before .before .before .before .before .before .before .whole2 .ensures, c .before .before .before .before .before .before .before .before .before .termination-number .ensures, c .before .before .before .before .before .before .before .whole3 .ensures, c .before .before .before .before .before .before .whole4 .ensures, c .before .before .before .before .before .whole5 .ensures)
+    let at-whole6 = c .before .before .before .before .before in
+    let at-whole5 = at-whole6 .before in
+    let at-whole2 = at-whole5 .before .before .before in
+    let at-whole = at-whole2 .before .before in
+    let at-if1 = at-whole .before .before .before .before .before .before .before in
+    rw (le-leb 20 _ (at-if1 .if1 .left), c .before .before .put .ensures, at-whole .whole .ensures, at-whole2 .whole2 .ensures,
+    at-whole2 .before .termination-number .ensures, at-whole5 .before .before .whole3 .ensures, at-whole5 .before .whole4 .ensures, at-whole5 .whole5 .ensures,
+    at-whole6 .whole6 .ensures)
 
 pub write-result-spec : {M : Type 1} → statement M
 write-result-spec =
@@ -20,6 +27,7 @@ write-result-spec =
     (tie.spec
     returns
     (λ c. search needs)
+    (λ c κs. search needs)
     (λ c κs. search needs)
     (λ c κs. search needs)
     (λ c κs. search needs)

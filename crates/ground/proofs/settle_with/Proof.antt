@@ -1,11 +1,15 @@
 -- The run of an accepted shot, and what the caller sees of it.
 use mathlib.Core.Path.{_∙_}
-use Rattle.ground.proofs.Whole.{settled-whole}
+use Rattle.ground.proofs.Whole.{limit-of, settled-whole}
 use Rattle.ground.proofs.settle_with.Statement.{statement}
 use Rattle.ground.proofs.settle_with.Tie as tie
 
 run-requires : tie.Need-run-requires
-run-requires c κs = c .before .before .before .before .before .before .before .before .before .before .before .before .before .before .before .before .pre .1
+run-requires c κs =
+    let at-conditions = c .before .before .before in
+    let at-zero = at-conditions .before .before .before .before .before .before .before in
+    let at-start = at-zero .before .before .before .before .before .before in
+    (at-start .pre .1, limit-of _ _ _ _ (at-start .pre .0) (at-conditions .conditions .ensures))
 
 same-length : tie.Need-same-length
 same-length c = c .before .before .before .before .before .run .kept .1 .1 .0 ∙ c .before .before .before .before .before .before .before .before .before .before .before .before .before .before .before .before .zero-from .kept .0

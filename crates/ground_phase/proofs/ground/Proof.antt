@@ -9,7 +9,7 @@ use Rattle.course.specs.Sheet.{courseOf}
 use Rattle.tally.specs.Times.{isLate}
 use Rattle.tally.specs.Contracts.{place}
 use Rattle.tally.proofs.Reached.{on}
-use Rattle.tally.proofs.Loop.{Midway, starts, ends-late, ends-due, goes-on, ends-done}
+use Rattle.tally.proofs.Loop.{Midway, still-bounded, starts, ends-late, ends-due, goes-on, ends-done}
 use Rattle.roll.specs.Roll.{lastOf, groundStep}
 use Rattle.roll.specs.Contracts.{rolledBy}
 use Rattle.ground_phase.specs.GroundPhase.{lastPhase, timeUp, groundFrom}
@@ -61,7 +61,7 @@ ground-step-requires : tie.Need-ground-step-requires Inv-loop μ-loop
 ground-step-requires c κs =
     let at-s = c .before .before .before .before .before .before in
     let at-start = at-s .before .before .before .before .before in
-    (at-start .pre, c .before .if2 .left)
+    (at-start .pre .0, (c .before .if2 .left, still-bounded (at-s .before .loop .inv [] .reached) (at-start .pre .1)))
 
 enum-known-pass : tie.Need-enum-known-pass Inv-loop μ-loop
 enum-known-pass c = search needs

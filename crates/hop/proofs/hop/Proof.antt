@@ -9,7 +9,7 @@ use Rattle.course.specs.Sheet.{courseOf}
 use Rattle.tally.specs.Times.{isLate}
 use Rattle.tally.specs.Language.{pure}
 use Rattle.tally.specs.Contracts.{place}
-use Rattle.tally.proofs.Loop.{Midway, starts, stands, ends-late, ends-due, goes-on, ends-done}
+use Rattle.tally.proofs.Loop.{Midway, still-bounded, starts, stands, ends-late, ends-due, goes-on, ends-done}
 use Rattle.hop.specs.Hop.{hopStep, hopFrom}
 use Rattle.hop.specs.declared.Way.the-variants.{Late}
 use Rattle.hop.proofs.hop.Statement.{statement}
@@ -56,7 +56,7 @@ hop-step-requires c κs =
     let at-state = c .before .before .before .before .before .before in
     let at-shared-slice-known2 = at-state .before .before .before .before .before .before in
     let at-start = at-shared-slice-known2 .before .before in
-    (at-start .pre, c .before .if2 .left)
+    (at-start .pre .0, (c .before .if2 .left, still-bounded (at-state .before .loop .inv [] .reached) (at-start .pre .1)))
 
 enum-known-pass : tie.Need-enum-known-pass Inv-loop μ-loop
 enum-known-pass c = search needs

@@ -1,5 +1,6 @@
 -- One pass of a hop: how far it has come at each place, and what it comes to where it ends.
 use borrow.Author.Needs.{needs}
+use Prim.Native.Nat.{_+_, _*_, _≤_}
 use native.Mathlib.Omega.{arith}
 use mathlib.Core.List.{List, []}
 use mathlib.Core.Path.{refl}
@@ -9,9 +10,9 @@ use Rattle.course.specs.Sheet.{courseOf}
 use Rattle.tally.specs.Language.{M, Pass}
 use Rattle.tally.specs.Contracts.{place, Reached}
 use Rattle.tally.specs.declared.Tally.{Tally}
-use Rattle.tally.proofs.Reached.{ended, state-good, state-bad, due-pushed, due-full}
+use Rattle.tally.proofs.Reached.{ended, state-good, state-bad, no-work-tested, due-pushed, due-full}
 use Rattle.arrival.specs.declared.Arc.{Arc}
-use Rattle.arrival.proofs.Ways.{cleared, clear-off, arrived, none-arrived, arrive-off}
+use Rattle.arrival.proofs.Ways.{cleared, clear-off, no-work-cleared, arrived, none-arrived, arrive-off}
 use Rattle.hop.specs.Hop.{hopNext, hopStep}
 use Rattle.hop.specs.declared.Flight.{Flight}
 use Rattle.hop.specs.declared.Way.{Way}
@@ -54,6 +55,17 @@ ball c = c .before .before .step-end .result
 came-step : (c : tie.After-test) → Came c toTest (c .before .count-step .result)
 came-step c lc = stepped _ _ _ (step c .step-arc .ensures) (c .before .count-step .ensures)
 
+-- no evaluation is made up to there
+none-yet : (c : tie.After-end) → let t = test (good (clear c)) in c .end .given .0 .1 .0 .evaluations ≤ start (step t) .args .t .evaluations
+none-yet c =
+    let t = test (good (clear c)) in
+    omega (arith, no-work-cleared _ _ (clear c .clear .ensures) (c .end .given .1),
+    no-work-tested (courseOf (start (step t) .args .sheet .now)) _ (t .test .ensures) (good (clear c) .t2 .given .1), t .before .count-step .ensures .work)
+
+-- so there is room for the 200 of a search
+room : (c : tie.After-end) → let t = test (good (clear c)) in c .end .given .0 .1 .0 .evaluations + 200 ≤ start (step t) .args .t .evaluations + 200 * 1
+room c = omega (arith, none-yet c)
+
 came-test : (c : tie.After-t2) → let t = test c in Came t (λ f arc. toClear f arc (ball t)) (c .t2 .given .0 .0)
 came-test c lc = let t = test c in state-good _ (came-step t lc) (t .before .before .step-end .ensures) (t .test .ensures) (c .t2 .given .1)
 
@@ -68,14 +80,14 @@ came-none : (c : tie.After-push-due) → let m = c .before .before .before .befo
 came-none c lc =
     let m = c .before .before .before .before in
     let a = m .before .before in
-    not-met _ _ (none-arrived _ _ _ _ _ (came-clear (end a) lc) (a .arrive .ensures) (m .met3 .given .1)) (c .before .before .is-due .ensures)
+    not-met _ _ (none-arrived _ _ _ _ _ (came-clear (end a) lc) (room (end a)) (a .arrive .ensures) (m .met3 .given .1)) (c .before .before .is-due .ensures)
 
 -- ---- the answers
 
 count-step-requires : tie.Need-count-step-requires
 count-step-requires c κs =
-    let at-start = c .before .before .before .before .before .before in
-    omega (arith, at-start .pre .1, at-start .good)
+    let p = c .before .before .before .before .before .before .pre in
+    (omega (arith, p .1 .0, p .1 .1 .limit), (p .1 .1 .work, omega arith))
 
 enum-known-t2 : tie.Need-enum-known-t2
 enum-known-t2 c = search needs
@@ -103,7 +115,10 @@ returns-2 c lc =
     ended (clear-off _ _ (came-test (good l) lc) (l .clear .ensures) (c .enum-told2 .given .1))
 
 arrive-requires : tie.Need-arrive-requires
-arrive-requires c κs = start (step (test (good (clear (c .before .before))))) .pre .0
+arrive-requires c κs =
+    let e = c .before .before in
+    let p = start (step (test (good (clear e)))) .pre in
+    (p .0, omega (arith, none-yet e, p .1 .0, p .1 .1 .limit, p .1 .1 .work))
 
 enum-known-met : tie.Need-enum-known-met
 enum-known-met c = search needs
@@ -123,7 +138,7 @@ returns-3 c lc =
     let at-met2 = c .before .before .before .before in
     let m = at-met2 in
     let a = m .before .before in
-    ended (state-bad _ (arrived _ _ _ _ _ (came-clear (end a) lc) (a .arrive .ensures) (m .met2 .given .1)) refl (c .before .before .test2 .ensures)
+    ended (state-bad _ (arrived _ _ _ _ _ (came-clear (end a) lc) (room (end a)) (a .arrive .ensures) (m .met2 .given .1)) refl (c .before .before .test2 .ensures)
     (c .enum-told3 .given .1))
 
 enum-known-met-3 : tie.Need-enum-known-met-3
@@ -150,7 +165,7 @@ returns-5 : tie.Need-returns-5
 returns-5 c lc =
     let at-arrive = c .before .before .before in
     let a = at-arrive in
-    ended (arrive-off _ _ _ _ _ (came-clear (end a) lc) (a .arrive .ensures) (c .before .met .given .1))
+    ended (arrive-off _ _ _ _ _ (came-clear (end a) lc) (room (end a)) (a .arrive .ensures) (c .before .met .given .1))
 
 returns-6 : tie.Need-returns-6
 unfolding hopNext
@@ -158,7 +173,7 @@ returns-6 c lc =
     let at-test2 = c .before .before .before in
     let m = at-test2 .before .before in
     let a = m .before .before in
-    ended (state-good _ (arrived _ _ _ _ _ (came-clear (end a) lc) (a .arrive .ensures) (m .met2 .given .1)) refl (at-test2 .test2 .ensures)
+    ended (state-good _ (arrived _ _ _ _ _ (came-clear (end a) lc) (room (end a)) (a .arrive .ensures) (m .met2 .given .1)) refl (at-test2 .test2 .ensures)
     (c .before .t5 .given .1))
 
 same-length-2 : tie.Need-same-length-2

@@ -16,11 +16,11 @@ use Rattle.replaying.proofs.Laws.{Agrees, joined}
 use Rattle.replaying.proofs.gives_same.Statement.{statement}
 use Rattle.replaying.proofs.gives_same.Tie as tie
 
-part : (e : List ℕ) → take (length e - 192) (drop 192 e) ≡ drop 192 e
-part e = take-all (length e - 192) (drop 192 e) (omega (arith, length-drop 192 e))
+part : (e : List ℕ) → take (length e - 200) (drop 200 e) ≡ drop 200 e
+part e = take-all (length e - 200) (drop 200 e) (omega (arith, length-drop 200 e))
 
-gives : (e : List ℕ) (cs ps : List Float) {input : List ℕ} {s : Settled} {cs' ps' : List Float} {counts end lists : Bool} → result s cs' ps' ≡ settleInputOf input cs ps → input ≡ drop 192 e
-    → counts ≡ holds e 3 (countWords s) → end ≡ Agrees e 8 (doublesOf s) → lists ≡ holds e 22 (sumWords cs' ps') → (counts && end) && lists ≡ sameOf e (settleInputOf (drop 192 e) cs ps)
+gives : (e : List ℕ) (cs ps : List Float) {input : List ℕ} {s : Settled} {cs' ps' : List Float} {counts end lists : Bool} → result s cs' ps' ≡ settleInputOf input cs ps → input ≡ drop 200 e
+    → counts ≡ holds e 3 (countWords s) → end ≡ Agrees e 9 (doublesOf s) → lists ≡ holds e 23 (sumWords cs' ps') → (counts && end) && lists ≡ sameOf e (settleInputOf (drop 200 e) cs ps)
 gives e cs ps {s = s} {cs' = cs'} {ps' = ps'} x y p q t = rw (← y, ← x, p, q, t) (joined e s cs' ps')
 
 returns : tie.Need-returns

@@ -22,33 +22,33 @@ is-one = refl
 
 module _ (e : List ℕ) (c p : ℕ) where
   abbrev outcome : List Float → List Float → Bool
-  outcome cs ps = sameOf e (settleInputOf (drop 192 e) cs ps)
+  outcome cs ps = sameOf e (settleInputOf (drop 200 e) cs ps)
 
   -- the parts of longer lists that are lent
   lent : (rc rp : ℕ) {b : Bool} → c ≤ rc → p ≤ rp → b ≡ outcome (take c (replicate rc (ofBits binary64 4607182418800017408))) (take p (replicate rp (ofBits binary64 4607182418800017408)))
       → b ≡ outcome (replicate c (dec 1 1)) (replicate p (dec 1 1))
   lent rc rp i j t = t ∙ ap₂ outcome (take-replicate c rc _ i ∙ ap (replicate c) is-one) (take-replicate p rp _ j ∙ ap (replicate p) is-one)
 
-  replays : {b : Bool} → 192 ≤ length e → wholeAt e 0 ≡ length e - 192 → c ≡ wholeAt e 1 → p ≡ wholeAt e 2 → c ≤ 1300 → p ≤ 7051
+  replays : {b : Bool} → 200 ≤ length e → wholeAt e 0 ≡ length e - 200 → c ≡ wholeAt e 1 → p ≡ wholeAt e 2 → c ≤ 1300 → p ≤ 7051
       → b ≡ outcome (replicate c (dec 1 1)) (replicate p (dec 1 1)) → cond b Same Differs ≡ replayedOf e
   unfolding replayedOf intact
-  replays h z x y i j t = rw (le-leb 192 _ h, eq-eqb _ _ z, ← x, ← y, le-leb c 1300 i, le-leb p 7051 j, t)
+  replays h z x y i j t = rw (le-leb 200 _ h, eq-eqb _ _ z, ← x, ← y, le-leb c 1300 i, le-leb p 7051 j, t)
 
 returns : tie.Need-returns
 unfolding replayedOf intact
-returns c = rw (lt-leb 192 _ (c .if1 .taken))
+returns c = rw (lt-leb 200 _ (c .if1 .taken))
 
 returns-2 : tie.Need-returns-2
 unfolding replayedOf intact
-returns-2 c = rw (le-leb 192 _ (c .before .before .if1 .left), ← c .before .word .ensures, ne-eqb _ _ (c .if2 .taken))
+returns-2 c = rw (le-leb 200 _ (c .before .before .if1 .left), ← c .before .word .ensures, ne-eqb _ _ (c .if2 .taken))
 
 returns-3 : tie.Need-returns-3
 unfolding replayedOf intact
-returns-3 c = rw (le-leb 192 _ (c .before .before .before .before .before .if1 .left), ← c .before .before .before .before .word .ensures, eq-eqb _ _ (c .before .before .before .if2 .left), ← c .before .before .word2 .ensures, lt-leb _ 1300 (c .if3 .taken))
+returns-3 c = rw (le-leb 200 _ (c .before .before .before .before .before .if1 .left), ← c .before .before .before .before .word .ensures, eq-eqb _ _ (c .before .before .before .if2 .left), ← c .before .before .word2 .ensures, lt-leb _ 1300 (c .if3 .taken))
 
 returns-4 : tie.Need-returns-4
 unfolding replayedOf intact
-returns-4 c = rw (le-leb 192 _ (c .before .before .before .before .before .before .if1 .left), ← c .before .before .before .before .before .word .ensures, eq-eqb _ _ (c .before .before .before .before .if2 .left), ← c .before .before .before .word2 .ensures, le-leb _ 1300 (c .before .if3 .left), ← c .before .before .word3 .ensures, lt-leb _ 7051 (c .if4 .taken))
+returns-4 c = rw (le-leb 200 _ (c .before .before .before .before .before .before .if1 .left), ← c .before .before .before .before .before .word .ensures, eq-eqb _ _ (c .before .before .before .before .if2 .left), ← c .before .before .before .word2 .ensures, le-leb _ 1300 (c .before .if3 .left), ← c .before .before .word3 .ensures, lt-leb _ 7051 (c .if4 .taken))
 
 slice-aggregate-gives-same : tie.Need-slice-aggregate-gives-same
 slice-aggregate-gives-same c = sym (length-take-le _ _ (search needs))

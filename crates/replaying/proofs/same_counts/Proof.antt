@@ -1,4 +1,4 @@
--- `same_counts` compares the five whole numbers.
+-- `same_counts` compares the six whole numbers.
 use borrow.Author.Needs.{needs}
 use Rattle.replaying.proofs.same_counts.Statement.{statement}
 use Rattle.replaying.proofs.same_counts.Tie as tie

@@ -1,5 +1,6 @@
 -- One pass of the ground: how far it has come at each place, and what it comes to where it ends.
 use borrow.Author.Needs.{needs}
+use native.Mathlib.Omega.{arith}
 use mathlib.Core.Path.{_∙_}
 use mathlib.Core.Bool.{Bool}
 use mathlib.Core.List.{List, []}
@@ -14,6 +15,7 @@ use Rattle.tally.specs.declared.Conditions.{Conditions}
 use Rattle.tally.specs.declared.Tally.{Tally}
 use Rattle.tally.proofs.Reached.{ended, spot-seen, spot-off, state-good, state-bad, due-pushed, due-full, point-pushed, points-full, not-left, not-taken}
 use Rattle.roll.specs.Roll.{groundStep}
+use Rattle.roll.specs.Evaluations.{pass-at-most-200}
 use Rattle.roll.specs.declared.Roll.{Roll}
 use Rattle.roll.specs.declared.Ending.{Ending}
 use Rattle.roll.proofs.Pass.{toPush, toLook, toTest, toHeld, toRest, stepped}
@@ -88,7 +90,9 @@ came-held c lc = not-taken _ _ _ (came-test (good (held c)) lc) (held c .held .e
 -- ---- the answers
 
 count-step-requires : tie.Need-count-step-requires
-count-step-requires c κs = search needs
+count-step-requires c κs =
+    let p = start c .pre in
+    (omega (arith, p .1 .0, p .1 .1 .limit), (p .1 .1 .work, rw (c .step-on .ensures) (pass-at-most-200 _ _)))
 
 enum-known-t2 : tie.Need-enum-known-t2
 enum-known-t2 c = search needs

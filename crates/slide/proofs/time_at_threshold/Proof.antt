@@ -1,48 +1,74 @@
--- `time_at_threshold` meets its contract.
-use Rattle.slide.specs.Slide.{turningRate, aboveOf}
+-- The search: what is left of it, from the evaluations made so far, is the whole search.
 use native.Mathlib.Omega.{arith}
 use borrow.Author.Needs.{needs}
+use Prim.Native.Nat.{_-_}
 use mathlib.Core.Path.{_≡_, refl, _∙_}
-use Rattle.search.specs.Search.{rootFrom, findRoot, plain, root-ended}
-use Rattle.slide.proofs.Stages.{turned}
+use Rattle.search.specs.Search.{findRoot}
+use Rattle.slide.specs.Slide.{aboveOf}
+use Rattle.slide.proofs.Stages.{searchOn, since-0, goes-on, found, ended}
 use Rattle.slide.proofs.time_at_threshold.Statement.{statement}
 use Rattle.slide.proofs.time_at_threshold.Tie as tie
 
 abbrev Inv-loop : tie.InvT-loop
-Inv-loop patch start t u-hat0 k1 threshold guess s₀ left₀ s left =
-    rootFrom plain (aboveOf patch start t u-hat0 threshold) left s ≡ rootFrom plain (aboveOf patch start t u-hat0 threshold) left₀ s₀
+Inv-loop patch start t u-hat0 k1 threshold guess s₀ made₀ s made =
+    searchOn (aboveOf patch start t u-hat0 threshold) made s ≡ searchOn (aboveOf patch start t u-hat0 threshold) made₀ s₀
 
 abbrev μ-loop : tie.MeasureT-loop
-μ-loop patch start t u-hat0 k1 threshold guess s₀ left₀ s left = left
+μ-loop patch start t u-hat0 k1 threshold guess s₀ made₀ s made = 200 - made
 
 loop-holds : tie.Need-loop-holds Inv-loop μ-loop
 loop-holds c = refl
 
+above-requires : tie.Need-above-requires Inv-loop μ-loop
+above-requires c κs = c .before .before .before .before .pre
+
+add-made : tie.Need-add-made Inv-loop μ-loop
+add-made c = omega (arith, c .before .before .loop-test .taken)
+
 enum-known-step : tie.Need-enum-known-step Inv-loop μ-loop
 enum-known-step c = search needs
+
+loop-less : tie.Need-loop-less Inv-loop μ-loop
+loop-less c = omega (arith, c .before .before .before .before .before .before .loop-test .taken)
+
+loop-again : tie.Need-loop-again Inv-loop μ-loop
+loop-again c =
+    let at-narrow = c .before .before .before in
+    let at-loop-test = at-narrow .before .before .before in
+    goes-on _ _ _ (at-loop-test .loop-test .taken) (at-narrow .before .before .in-bracket .ensures) (at-narrow .before .above .ensures)
+    (at-narrow .narrow .ensures) (c .before .step .given .1) ∙ at-loop-test .before .loop .inv
 
 enum-known-step-2 : tie.Need-enum-known-step-2 Inv-loop μ-loop
 enum-known-step-2 c = search needs
 
 returns : tie.Need-returns Inv-loop μ-loop
 unfolding findRoot
-returns c = rw (← c .before .before .before .before .before .before .before .before .start-search .ensures) (turned _ _ _ (c .before .before .before .before .before .before .loop-test .taken) (c .before .before .before .before .before .in-bracket .ensures) (c .before .before .before .before .above .ensures) (c .before .before .before .narrow .ensures) (c .before .step2 .given .1) ∙ c .before .before .before .before .before .before .before .loop .inv)
-
-sub-left : tie.Need-sub-left Inv-loop μ-loop
-sub-left c = omega arith
-
-loop-less : tie.Need-loop-less Inv-loop μ-loop
-loop-less c = omega arith
-
-loop-again : tie.Need-loop-again Inv-loop μ-loop
-loop-again c = turned _ _ _ (c .before .before .before .before .before .before .loop-test .taken) (c .before .before .before .before .before .in-bracket .ensures) (c .before .before .before .before .above .ensures) (c .before .before .before .narrow .ensures) (c .before .step .given .1) ∙ c .before .before .before .before .before .before .before .loop .inv
+returns c =
+    let at-narrow = c .before .before .before in
+    let at-loop-test = at-narrow .before .before .before in
+    rw (← at-loop-test .before .before .start-search .ensures)
+    (found _ _ _ (at-loop-test .loop-test .taken) (at-narrow .before .before .in-bracket .ensures) (at-narrow .before .above .ensures)
+    (at-narrow .narrow .ensures) (c .before .step2 .given .1) ∙ at-loop-test .before .loop .inv ∙ since-0 _)
 
 returns-2 : tie.Need-returns-2 Inv-loop μ-loop
 unfolding findRoot
-returns-2 c = rw (← c .before .before .start-search .ensures) (root-ended plain _ _ _ (c .loop-test .left) ∙ c .before .loop .inv)
-
-above-requires : tie.Need-above-requires Inv-loop μ-loop
-above-requires c κs = c .before .before .before .before .pre
+returns-2 c = rw (← c .before .before .start-search .ensures) (ended _ _ _ (c .loop-test .left) ∙ c .before .loop .inv ∙ since-0 _)
 
 pub time-at-threshold-spec : {M : Type 1} → statement M
-time-at-threshold-spec = tie.close (tie.spec Inv-loop μ-loop (λ c κs. tt) loop-holds (λ c κs. tt) above-requires (λ c κs. tt) enum-known-step enum-known-step-2 returns sub-left loop-less loop-again returns-2)
+time-at-threshold-spec =
+    tie.close
+    (tie.spec
+    Inv-loop
+    μ-loop
+    (λ c κs. tt)
+    loop-holds
+    (λ c κs. tt)
+    above-requires
+    add-made
+    (λ c κs. tt)
+    enum-known-step
+    loop-less
+    loop-again
+    enum-known-step-2
+    returns
+    returns-2)

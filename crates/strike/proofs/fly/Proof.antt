@@ -13,6 +13,7 @@ use Rattle.tally.specs.Language.{M, pointWidth}
 use Rattle.tally.specs.Contracts.{place, Reached}
 use Rattle.tally.specs.declared.Conditions.{Conditions}
 use Rattle.tally.specs.declared.Tally.{Tally}
+use Rattle.tally.proofs.Loop.{still-bounded}
 use Rattle.tally.proofs.Reached.{begun, ended, on, came, if-taken, point-pushed, points-full, point-fits, truncated}
 use Rattle.hop.specs.declared.Way.{Way}
 use Rattle.hop.proofs.Ways.{flew, hop-ended, hop-due}
@@ -103,7 +104,10 @@ returns-2 c lc =
     on (ended (points-full _ _ _ (came-push p lc) (p .push-point .ensures) (c .enum-told .given .1)))
 
 hop-requires : tie.Need-hop-requires
-hop-requires c κs = start (push (c .before .before .before)) .pre
+hop-requires c κs =
+    let q = c .before .before .before in
+    let p = start (push q) .pre in
+    (p .0, still-bounded (came-hop q []) (p .1))
 
 enum-known-flight : tie.Need-enum-known-flight
 enum-known-flight c = search needs

@@ -6,8 +6,9 @@ use mathlib.Core.Path.{_∙_, sym}
 use mathlib.Core.List.{[]}
 use lib.ListN.{length}
 use Rattle.course.specs.Sheet.{courseOf}
-use Rattle.tally.specs.Contracts.{place}
+use Rattle.tally.specs.Contracts.{place, Bounded}
 use Rattle.tally.proofs.Reached.{ended, on, came, contact-pushed, contacts-full, contact-fits, no-contact}
+use Rattle.tally.proofs.Loop.{still-bounded, bounded-after}
 use Rattle.ground_phase.proofs.Ways.{ground-ran, ground-due}
 use Rattle.train.proofs.Turn.{Along, starts, along, struck, struck-off, ends-last, ends-flight, flown, ends-drop, dropped, kept, arrived, ends-late}
 use Rattle.train.proofs.run.Statement.{statement}
@@ -23,11 +24,18 @@ abbrev μ-loop : tie.MeasureT-loop
 loop-holds : tie.Need-loop-holds Inv-loop μ-loop
 loop-holds c = starts _ _ _ _ _ (c .first-tally .ensures)
 
+-- ---- at most 200 evaluations a step
+abbrev start : tie.After-strike Inv-loop μ-loop → tie.Start Inv-loop μ-loop
+start c = c .before .before .before .before .before .before .before .before
+
+after-strike : (c : tie.After-strike Inv-loop μ-loop) → Bounded (start c .args .c) (c .strike .result .tally)
+after-strike c = bounded-after (c .strike .ensures [] []) (still-bounded (c .before .loop .inv .reached) (record { limit = start c .pre .1; work = omega arith }))
+
 strike-requires : tie.Need-strike-requires Inv-loop μ-loop
 strike-requires c κs =
     let at-shared-slice-known = c .before .before .before .before .before .before in
     let at-start = at-shared-slice-known .before in
-    at-start .pre
+    at-start .pre .0
 
 enum-known-strike-end : tie.Need-enum-known-strike-end Inv-loop μ-loop
 enum-known-strike-end c = search needs
@@ -83,10 +91,9 @@ returns-2 c =
 
 fly-requires : tie.Need-fly-requires Inv-loop μ-loop
 fly-requires c κs =
-    let at-match = c .before .before .before .before .before .before in
-    let at-slice-known2 = at-match .before .before .before .before .before .before in
-    let at-start = at-slice-known2 .before .before .before .before in
-    at-start .pre
+    let at-strike-end = c .before .before .before .before .before in
+    let at-strike = at-strike-end .before .before .before in
+    (start at-strike .pre .0, after-strike at-strike)
 
 enum-known-how : tie.Need-enum-known-how Inv-loop μ-loop
 enum-known-how c = search needs
@@ -284,14 +291,12 @@ returns-6 c =
 
 ground-requires : tie.Need-ground-requires Inv-loop μ-loop
 ground-requires c κs =
-    let at-slice-known6 = c .before .before .before .before .before .before in
-    let at-out = at-slice-known6 .before .before .before .before .before .before in
-    let at-slice-known5 = at-out .before .before .before .before .before .before in
-    let at-rebounds = at-slice-known5 .before .before .before .before .before .before in
-    let at-loop = at-rebounds .before .before .before .before .before .before in
-    let at-shared-slice-known = at-loop .before .before .before .before .before .before in
-    let at-start = at-shared-slice-known .before in
-    at-start .pre
+    let at-drop-to-ground = c .before .before .before .before .before .before .before .before in
+    let at-known-told3 = at-drop-to-ground .before .before .before .before .before .before in
+    let at-fly = at-known-told3 .before .before .before .before .before .before in
+    let at-strike = at-fly .before .before .before .before .before .before .before .before .before in
+    (start at-strike .pre .0, bounded-after (at-drop-to-ground .drop-to-ground .ensures (courseOf (start at-strike .args .sheet .now)) [])
+    (bounded-after (at-fly .fly .ensures []) (after-strike at-strike)))
 
 enum-known-ground : tie.Need-enum-known-ground Inv-loop μ-loop
 enum-known-ground c = search needs
