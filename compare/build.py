@@ -88,8 +88,8 @@ def doors(libs):
     return found
 
 
-def program(name, libs=None, out=None):
-    args = ["--crate-name", name, f"src/{name}.rs", "--extern", f"dimple_ref={TARGET/'libdimple_ref.rlib'}",
+def program(name, libs=None, out=None, reference=TARGET / "libdimple_ref.rlib"):
+    args = ["--crate-name", name, f"src/{name}.rs", "--extern", f"dimple_ref={reference}",
             "--extern", f"dimple_std={TARGET/'libdimple_std.rlib'}",
             "--extern", f"dimple_log={TARGET/'libdimple_log.rlib'}", "-o", out or TARGET / name]
     for lib, there, kind, names in doors(pathlib.Path(libs)) if libs else []:
@@ -152,14 +152,18 @@ def main():
                 if not found:
                     missed.append(leaf)
         program("compare", TARGET / "mock", TARGET / "compare_mock")
-        for name in a.plants or patches.PLANTS:
-            plant = patches.PLANTS[name]
+        for name in a.plants or [*patches.PLANTS, *patches.BROKEN]:
+            both = name in patches.BROKEN
             out = TARGET / "plants" / name
-            generate(src, out, plant)
-            mock(out, out, ["capi"])
-            run = subprocess.run([TARGET / "compare_mock", "settle", "--shots", "20000", "--first"],
+            generate(src, out, patches.BROKEN[name] if both else patches.PLANTS[name])
+            mock(out, out, ["capi", "probe"] if both else ["capi"])
+            compare = TARGET / "compare_mock"
+            if both:
+                compare = out / "compare"
+                program("compare", out, compare, out / "libdimple_ref.rlib")
+            run = subprocess.run([compare, "settle", "--shots", "20000", "--first"],
                                  env=dict(os.environ, LD_LIBRARY_PATH=str(out)), capture_output=True, text=True)
-            found = run.returncode == 1 and "DIFFERENT" in run.stdout
+            found = run.returncode == 1 and "DIFFERENT" in run.stdout and ("HISTORY" in run.stdout) >= both
             line = next((l for l in run.stdout.splitlines() if "DIFFERENT" in l), "not found")
             print(f"{name:16} {'found' if found else 'MISSED'}  {line[:110]}", flush=True)
             if not found:

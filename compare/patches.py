@@ -248,3 +248,12 @@ PLANTS = {
                          "        if shut == crate::added::Hit::hop_shut_by_jump { crate::added::evaluation(shut); }\n"),
     "hold": ("ground.rs", "surface.mu_roll * G * n.y\n", "surface.mu_roll * G\n"),
 }
+
+# Planted in the reference and in the library alike, so that they do not differ: found by src/history.rs alone.
+BROKEN = {
+    "points-kept": ("ground.rs", "                        self.terrain.run().truncate(&mut points, mark);\n", ""),
+    "not-placed": ("ground.rs", "        pos.y = self.sample(pos).height;\n", "        self.sample(pos);\n"),
+    "impacts-early": ("ground.rs", "if contacts.len() + 1 >= self.max_impacts {", "if contacts.len() + 2 >= self.max_impacts {"),
+    "not-held": ("ground.rs", "let held = stopped && under.holds_at_rest();", "let held = stopped;"),
+    "stop-back": ("ground.rs", "            time: state.time + t_stop,\n", "            time: state.time - t_stop,\n"),
+}

@@ -6,6 +6,7 @@ mod card;
 mod faults;
 #[cfg(all(has_guess_root, has_guess_look))]
 mod guesses;
+mod history;
 mod leaves;
 mod shelf;
 mod shots;
@@ -200,6 +201,7 @@ pub struct Counts {
     slide_evaluations: u64,
     with_hop: u64,
     with_slide: u64,
+    histories: u64,
 }
 
 impl Default for Counts {
@@ -214,6 +216,7 @@ impl Default for Counts {
             slide_evaluations: 0,
             with_hop: 0,
             with_slide: 0,
+            histories: 0,
         }
     }
 }
@@ -252,9 +255,10 @@ impl Counts {
         self.slide_evaluations += o.slide_evaluations;
         self.with_hop += o.with_hop;
         self.with_slide += o.with_slide;
+        self.histories += o.histories;
     }
     fn print_answers(&self) {
-        println!("cases {} steps {}", self.cases, self.steps);
+        println!("cases {} steps {} histories {}", self.cases, self.steps, self.histories);
         let a: Vec<String> = self.answers.iter().enumerate().filter(|(_, n)| **n > 0).map(|(i, n)| format!("{i}: {n}")).collect();
         println!("answers {}", a.join(", "));
         println!("terminations rest {} time {} impacts {}", self.terminations[1], self.terminations[2], self.terminations[3]);
@@ -301,6 +305,12 @@ fn check(r: &mut Rng, c: &mut Counts, what: &str, input: &[u8], contacts_len: us
                 different(what, format!("{name} {} {lists}", l.shown(i)), input);
                 break;
             }
+        }
+    }
+    if answer == 0 && result_len >= RESULT {
+        c.histories += 1;
+        if let Some(f) = history::fault(input, &contacts.given[..contacts_len], &points.given[..points_len], &result.given) {
+            different(what, format!("HISTORY {f}"), input);
         }
     }
     c.count(&out);

@@ -104,4 +104,17 @@ pub fn run() {
         t.areas.push(area((1.0, 50.0), (-1.0, 1.0), 1.0, 0.0, 0.0, 0));
         t
     });
+    show("S at (-0.5, 0, -0.5) on a level patch of h0 -0, whose height there is -0: at rest with y +0", &{
+        let mut t = s.clone().with3(POS, [-0.5, 0.0, -0.5]);
+        t.areas.push(area((-1.0, 1.0), (-1.0, 1.0), -0.0, 0.0, 0.0, 0));
+        t
+    });
+    show("a roll uphill without friction, at velocity 0 by rounding on ground that holds: at rest with -0 in z", &{
+        let mut t = s.clone().with(DT, 0.002).with(STOP_SPEED, 0.0).with(POS + 1, 5.0);
+        t.surfaces = [0.0, 10.0].map(|mu_roll| surface(0, 0.0, 0.4, mu_roll, 0, 1.0, 0.0, 0.0)).to_vec();
+        for (x, number) in [((-1.0, 3e-6), 0), ((3e-6, 1.0), 1)] {
+            t.areas.push(area(x, (-1.0, 1.0), 5.0, 1.1723883361783551, 5e-324, number));
+        }
+        t.with3(VEL, [0.0069170827781010556, 0.008109507169425847, -0.0]).with3(SPIN, [0.0, 0.0, -0.49959249034963543])
+    });
 }

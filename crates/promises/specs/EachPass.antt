@@ -85,7 +85,7 @@ module _ {A B : Type 0} (I : A → Type 0) (R : B → Type 0) (late : A → Bool
 any : {A : Type 0} (m : M A) → Gives (λ _. Unit) m
 any m o = t-any m
 
-impact-time : (state : BallState) (at : GroundSample) (ball : BallModel) → impactOf state at ball .time ≡ state .time
+pub impact-time : (state : BallState) (at : GroundSample) (ball : BallModel) → impactOf state at ball .time ≡ state .time
 unfolding impactOf struckBy
 impact-time state at ball =
     let n = vnormalize (at .normal) in
@@ -93,7 +93,7 @@ impact-time state at ball =
     time-either (le (neg grazing ⊗ vlength v) (vdot v n)) _ _ (state .time) refl
     (time-either (le (dec 0 1) (vdot v (effectiveNormal (at .surface) n v (vdot v n)))) _ _ (state .time) refl refl)
 
-dropped-time : (c : Conditions) (hit : Struck) → dropped c hit .time ≡ hit .out .time
+pub dropped-time : (c : Conditions) (hit : Struck) → dropped c hit .time ≡ hit .out .time
 unfolding dropped
 dropped-time c hit =
     let n = vnormalize (hit .«at» .normal) in

@@ -21,7 +21,7 @@ use Rattle.aero.specs.declared.BallModel.{BallModel}
 use Rattle.look.specs.Rect.{noRect}
 use Rattle.look.specs.Agree.{exec-is}
 use Rattle.look.specs.Tree.{Tree, Oracle, Did, exec, run, looks}
-use Rattle.look.specs.Resume.{steps as stepsOf}
+use Rattle.look.specs.Resume.{steps as stepsOf, made as madeBy, steps-are}
 use Rattle.look.specs.Within.{and-parts, coord-fin}
 use Rattle.course.specs.Sheet.{Accepted, answerOf, courseOf}
 use Rattle.records.specs.Records.{Records, null, flat, shown}
@@ -105,6 +105,8 @@ module _ (sheet : List ℕ) (shot : Shot) (cs ps : List Float) where
   pub record Leaves : Type 0 where
     pub contacts : Records
     pub points : Records
+    -- those of the run's log
+    pub logged : (contacts ≡ run o t .log .contacts .records) × (points ≡ run o t .log .points .records)
     -- both lists are these records, in order, and +0 in all the rest
     pub contacts-listed : got .contacts ≡ shown (length cs) contacts
     pub points-listed : got .points ≡ shown (length ps) points
@@ -139,15 +141,15 @@ module _ (sheet : List ℕ) (shot : Shot) (cs ps : List Float) where
 
   -- what the whole run has behind it
   abbrev end : Past
-  end = past (run o t .log) (stepsOf o t) (looks o t) (misses o t)
+  end = past (run o t .log) (madeBy o t) (looks o t) (misses o t)
 
-  value-is : exec o noRect t .value ≡ run o t
+  pub value-is : exec o noRect t .value ≡ run o t
   value-is = ap (λ (d : Did (Ran Ending)). d .value) (exec-is o noRect t)
 
   abbrev Afterwards : Outcome Ending → Past → Type 0
   Afterwards x w = After (Ended e) (Stops e) x w
 
-  all-sound : (x : Outcome Ending) (w : Past) → Afterwards x w → Sound e (w .log) (w .made)
+  all-sound : (x : Outcome Ending) (w : Past) → Afterwards x w → Sound e (w .log) (length (w .made))
   all-sound (goes d) w h = h .0 .sound
   all-sound (stops n) w h = h .sound
 
@@ -208,6 +210,7 @@ module _ (sheet : List ℕ) (shot : Shot) (cs ps : List Float) where
       record {
         contacts = run o t .log .contacts .records;
         points = run o t .log .points .records;
+        logged = (refl, refl);
         contacts-listed = rw (h, value-is);
         points-listed = rw (h, value-is);
         contacts-counted = rw (h, value-is);
@@ -218,7 +221,7 @@ module _ (sheet : List ℕ) (shot : Shot) (cs ps : List Float) where
         each-contact = s .contacts .each;
         each-point = s .points .each;
         steps = rw (h, value-is) (s .counted .1);
-        made = rw (h, value-is) (s .counted .0);
+        made = rw (h, value-is, ← steps-are o t) (s .counted .0);
         work = rw (h, value-is) (let few = of-every-run o (train-works o c landing) (firstLog landing (length cs) (length ps)) (omega arith) in omega (arith, few));
         answer = rw (h, value-is) (answer-is (run o t .outcome) end k);
         contacts-full = rw (h, value-is) (λ a. reason-20 (y 20 (omega arith) a .0));

@@ -18,7 +18,7 @@ use Rattle.promises.specs.Terms.{Each, Ok, PointOf, SampleOf, ContactOf,
 use Rattle.tally.specs.Triple.{Past, spot, evaluatedOnce, After, reach, reaches, Triple}
 use Rattle.tally.specs.Triple.{t-look, t-test, t-point, t-contact, t-mark, t-truncate, t-step, t-left, t-when, t-know}
 
-each-more : (P : List Float → Type 0) (rs : Records) (r : List Float) → Each P rs → P r → Each P (rs ++ (r ∷ []))
+pub each-more : (P : List Float → Type 0) (rs : Records) (r : List Float) → Each P rs → P r → Each P (rs ++ (r ∷ []))
 each-more P [] r h p = (p, tt)
 each-more P (s ∷ rs) r h p = (h .0, each-more P rs r (h .1) p)
 
@@ -54,11 +54,11 @@ module _ (P : List Float → Type 0) (n : ℕ) (l : Lent) where
   is-full h i = let a = h .few in let e = h .room in omega (arith, a, e, i)
 
 -- ---- a part goes on with what its own run gives
-outcome-is : {A : Type 0} (o : Oracle) (t : Tree (Ran A)) (n : ℕ) (s f : List Spot) → reach o t n s f .outcome ≡ run o t .outcome
+outcome-is : {A : Type 0} (o : Oracle) (t : Tree (Ran A)) (m : List Made) (s f : List Spot) → reach o t m s f .outcome ≡ run o t .outcome
 unfolding reach run
-outcome-is o (done r) n s f = refl
-outcome-is o (lookNode x z c) n s f = outcome-is o (c (seen o x z)) n _ _
-outcome-is o (step m t) n s f = outcome-is o t (suc n) s f
+outcome-is o (done r) m s f = refl
+outcome-is o (lookNode x z c) m s f = outcome-is o (c (seen o x z)) m _ _
+outcome-is o (step d t) m s f = outcome-is o t (m ++ (d ∷ [])) s f
 
 module _ {o : Oracle} {A : Type 0} where
   pub t-given : {P : Past → Type 0} {m : M A} {Q : A → Past → Type 0} {R : ℕ → Past → Type 0} → Triple o P m Q R → Triple o P m (λ a w. Q a w × GivenBy o m a) R
@@ -93,12 +93,12 @@ module _ (e : Setting) where
     limit-reached : w .off ≡ [] → w .log .steps ≡ e .conditions .«step_limit» → Why w 23
 
   pub record Stops (n : ℕ) (w : Past) : Type 0 where
-    pub sound : Sound (w .log) (w .made)
+    pub sound : Sound (w .log) (length (w .made))
     pub why : Why w n
 
   -- on the way: F of the steps and of the number of contacts, g the last state that passed its test
   pub record At (F : ℕ → ℕ → Type 0) (g : BallState) (w : Past) : Type 0 where
-    pub sound : Sound (w .log) (w .made)
+    pub sound : Sound (w .log) (length (w .made))
     pub frame : F (w .log .steps) (length (w .log .contacts .records))
     pub good : w .log .good ≡ g
     pub on : w .off ≡ []
@@ -200,7 +200,7 @@ module _ {e : Setting} where
             contacts = h .contacts;
             points = h .points;
             few-impacts = h .few-impacts;
-            counted = (omega (arith, i), omega (arith, d));
+            counted = (rw (length-append (w .made) (s ∷ [])) (omega (arith, i)), omega (arith, d));
           };
           frame = (omega (arith, d), a .frame .1);
           good = a .good;

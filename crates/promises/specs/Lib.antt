@@ -15,3 +15,10 @@ pub mod OnePass
 pub mod EachPass
 pub mod Brackets
 pub mod Counted
+pub mod Table
+pub mod Ordered
+pub mod Still
+pub mod Walked
+pub mod Told
+pub mod Retold
+pub mod History

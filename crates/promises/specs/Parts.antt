@@ -22,7 +22,8 @@ use Rattle.search.specs.declared.RootStep.{RootStep}
 use Rattle.search.specs.declared.RootStep.the-variants.{Next, Found}
 use Rattle.tally.specs.Language.{M, inM, look, pushContact, evaluate}
 use Rattle.tally.specs.declared.Conditions.{Conditions}
-use Rattle.arrival.specs.Arrival.{clearance, clearanceAt, subStep, crossingFrom, firstCrossing, endValue, crossingTime, hopArrival}
+use Rattle.arrival.specs.Arrival.{clearance, clearanceAt, subStep, crossingFrom, firstCrossing, endValue, crossingTime, placed, hopArrival}
+use Rattle.arrival.specs.FirstCrossing.{IfSome}
 use Rattle.arrival.specs.declared.Arc.{Arc}
 use Rattle.hop.specs.Hop.{stepArc, stepEnd, hopNext, hopStep, hopFrom, hop}
 use Rattle.hop.specs.declared.Flight.{Flight}
@@ -45,7 +46,7 @@ use Rattle.strike.specs.declared.Flown.{Flown}
 use Rattle.strike.specs.declared.Flown.the-variants.{Hop, Ground}
 use Rattle.train.specs.Train.{lastImpact, toGround, trainFrom, train}
 use Rattle.tally.specs.Triple.{t-made, t-evaluation, evaluatedOnce, Past, After, OnWith, Triple, t-before, t-after, t-bind, t-then, t-fact, t-know, t-of, t-if, t-pure, t-same, t-loop}
-use Rattle.promises.specs.Terms.{Answer, SampleOf, Ok, under, GivenBy, struckAt, arcFrom, Grounded, at-once, after-hop}
+use Rattle.promises.specs.Terms.{Answer, SampleOf, Ok, under, Placed, GivenBy, struckAt, arcFrom, Grounded, at-once, after-hop}
 use Rattle.promises.specs.Terms.{impact, hop-step, arrival, drop as dropping, ground-step}
 use Rattle.promises.specs.Keeps.{Setting, Keeps, At, Within, at-ok, at-frame, t-given}
 use Rattle.promises.specs.Keeps.{a-look, a-evaluation, a-test, a-point-own, a-contact, a-mark, a-truncate, a-when, a-step, a-left, a-limit}
@@ -96,12 +97,16 @@ module _ {o : Oracle} {P : Past → Type 0} {R : ℕ → Past → Type 0} (look-
   unfolding crossingTime findRoot
   l-crossingTime arc b = t-bind (l-endValue arc b) (λ x. t-then (look-keeps _ _) (λ s _. l-root _ (l-clearanceAt arc) _ _))
 
-  pub l-hopArrival : (arc : Arc) (t end : Float) (spin : DVec3) → Looks (hopArrival arc t end spin)
-  unfolding hopArrival firstCrossing
-  l-hopArrival arc t end spin = t-bind (l-clearanceAt arc _) (λ x. t-bind (l-crossingFrom _ (l-clearanceAt arc) _ _ 8 1 _) (elim [
-    | none ↦ t-same
-    | some b ↦ t-bind (l-crossingTime arc b) (λ tau. t-then (look-keeps _ _) (λ s _. t-same))
+  -- an arrival lies on the course
+  pub l-arrival : (arc : Arc) (t end : Float) (spin : DVec3) → Triple o P (hopArrival arc t end spin) (λ a w. P w × IfSome (Placed o) a) R
+  unfolding hopArrival firstCrossing placed
+  l-arrival arc t end spin = t-bind (l-clearanceAt arc _) (λ x. t-bind (l-crossingFrom _ (l-clearanceAt arc) _ _ 8 1 _) (elim [
+    | none ↦ t-pure (λ w p. (p, tt))
+    | some b ↦ t-bind (l-crossingTime arc b) (λ tau. t-then (look-keeps _ _) (λ s h. t-pure (λ w p. (p, ap (λ (g : GroundSample). g .height) h))))
   ]))
+
+  pub l-hopArrival : (arc : Arc) (t end : Float) (spin : DVec3) → Looks (hopArrival arc t end spin)
+  l-hopArrival arc t end spin = t-after (λ a w h. h .0) (λ n w h. h) (l-arrival arc t end spin)
 
 -- ---- what stays over the same spot
 
@@ -116,7 +121,7 @@ one-of : (P : BallState → Type 0) (b : Bool) (x y : BallState) → P x → P y
 one-of P true x y p q = p
 one-of P false x y p q = q
 
-impact-stays : (s : BallState) (g : GroundSample) (ball : BallModel) → SameSpot (impactOf s g ball) s
+pub impact-stays : (s : BallState) (g : GroundSample) (ball : BallModel) → SameSpot (impactOf s g ball) s
 unfolding impactOf hitBy
 impact-stays s g ball =
     let n = vnormalize (g .normal) in
@@ -124,7 +129,7 @@ impact-stays s g ball =
     one-of (λ x. SameSpot x s) (le (neg (dec 1 1000000000000) ⊗ vlength v) (vdot v n)) _ _ (same s)
     (one-of (λ x. SameSpot x s) (le (dec 0 1) (vdot v (effectiveNormal (g .surface) n v (vdot v n)))) _ _ (same s) (record { x = refl; z = refl }))
 
-drop-stays : (c : Conditions) (hit : Struck) → SameSpot (dropped c hit) (hit .out)
+pub drop-stays : (c : Conditions) (hit : Struck) → SameSpot (dropped c hit) (hit .out)
 unfolding dropped
 drop-stays c hit =
     let n = vnormalize (hit .«at» .normal) in
@@ -132,24 +137,25 @@ drop-stays c hit =
     one-of (λ x. SameSpot x (hit .out)) (le (vlength (slipOf v (hit .out .spin) n (radiusOf (c .ball)))) (c .physics .«roll_threshold»)) _ _
     (record { x = refl; z = refl }) (record { x = refl; z = refl })
 
-put-stays : (c : Conditions) (r : Roll) (s : BallState) (rolling : Bool) (g : GroundSample) → SameSpot (putDown c r s rolling g) s
+pub put-stays : (c : Conditions) (r : Roll) (s : BallState) (rolling : Bool) (g : GroundSample) → SameSpot (putDown c r s rolling g) s
 unfolding putDown ontoOf
 put-stays c r s rolling g =
     one-of (λ x. SameSpot x s) (sameVec (g .normal) (r .«at» .normal) && eq (s .pos .y) (g .height)) _ _
     (same s) (record { x = refl; z = refl })
 
-same-under : (o : Oracle) (a b : BallState) → SameSpot a b → under o a ≡ under o b
+pub same-under : (o : Oracle) (a b : BallState) → SameSpot a b → under o a ≡ under o b
 same-under o a b h = rw (h .x, h .z)
+
+-- the state with which a hop ends
+abbrev pub stateOf : Way → BallState
+stateOf (Arrived b) = b
+stateOf (Late b) = b
 
 module _ (e : Setting) where
   abbrev c : Conditions
   c = e .conditions
 
   -- ---- a hop
-
-  abbrev pub stateOf : Way → BallState
-  stateOf (Arrived b) = b
-  stateOf (Late b) = b
 
   -- the arc of the step from s, and the clearance at its end
   abbrev arcOn : BallState → Arc

@@ -73,6 +73,10 @@ module _ (o : Oracle) where
   abbrev pub under : BallState → GroundSample
   under s = o (s .pos .x) (s .pos .z)
 
+  -- y is the height of the course under it, bit for bit
+  abbrev pub Placed : BallState → Type 0
+  Placed s = s .pos .y ≡ under s .height
+
   -- a is what the part m gives, from some log
   pub record GivenBy {A : Type 0} (m : M A) (a : A) : Type 0 where
     pub log : Log

@@ -11,7 +11,7 @@ use Rattle.aero.specs.declared.AeroParams.{AeroParams}
 use Rattle.look.specs.Tree.{Oracle}
 use Rattle.tally.specs.Times.{isDue}
 use Rattle.tally.specs.Language.{M, Pass}
-use Rattle.tally.specs.Triple.{Past, Triple, t-before, t-after, t-and, t-bind, t-then, t-of, t-fact, t-if, t-pure, t-same, t-when, t-look, t-step, t-made}
+use Rattle.tally.specs.Triple.{Past, Triple, t-before, t-after, t-both, t-bind, t-then, t-of, t-fact, t-if, t-pure, t-same, t-when, t-look, t-step, t-made}
 use Rattle.tally.specs.declared.Conditions.{Conditions}
 use Rattle.arrival.specs.declared.Arc.{Arc}
 use Rattle.arrival.specs.Arrival.{clearance, hopArrival}
@@ -57,7 +57,7 @@ module _ (o : Oracle) where
       t-before {P = λ w. ((w .log .evaluations ≤ w .log .evaluations) × (w .log .steps ≡ w .log .steps)) × Spare 200 w}
       (λ w h. ((omega arith, refl), h)) (t-of {I = At} (λ w. (w .log .evaluations, w .log .steps)) (λ x. t-fact (λ h.
       t-after (λ a w p. omega (arith, p .0, p .1, h)) (λ n w p. omega (arith, p .0, p .1, h))
-      (t-and (arrival-at-most-200 arc t end spin o (x .0))
+      (t-both (arrival-at-most-200 arc t end spin o (x .0))
       (l-hopArrival {P = λ w. w .log .steps ≡ x .1} {R = λ _ w. w .log .steps ≡ x .1} (λ x z. t-look x z (λ w p _. (p, refl)) (λ w p _. p)) (λ w p. p)
       arc t end spin)))))
 

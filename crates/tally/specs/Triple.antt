@@ -1,7 +1,6 @@
 -- Definitions. A program logic over the settle's language: `Triple P m Q R` says what holds of a run so far before a part m of it (P), where it goes
 -- on (Q, of its value too) and where it stops (R, of its number too). One rule a word, each by its weakest condition. Assumes nothing.
-use Prim.Native.Nat.{ℕ, zero, suc, _+_, _-_, _≤_, _<_}
-use native.Mathlib.Nat.{add-zero, zero-add, add-suc, suc-add}
+use Prim.Native.Nat.{ℕ, zero, suc, _-_, _≤_, _<_}
 use mathlib.Core.Path.{_≡_, refl, ap, _∙_, sym}
 use mathlib.Core.Bool.{Bool, true, false, not}
 use mathlib.Core.List.{List, [], _∷_, _++_, append-nil, append-assoc}
@@ -14,7 +13,7 @@ use Rattle.surface.specs.declared.GroundSample.{GroundSample}
 use Rattle.state.specs.declared.Phase.{Phase}
 use Rattle.look.specs.Rect.{spotOk}
 use Rattle.look.specs.Tree.{Made, Tree, done, look as lookNode, step, Oracle, Spot, run, looks, seen, answer, note, bind}
-use Rattle.look.specs.Resume.{steps as stepsOf}
+use Rattle.look.specs.Resume.{made as madeBy}
 use Rattle.records.specs.Records.{Records, pushed}
 use Rattle.state.specs.State.{stateOk}
 use Rattle.tally.specs.Language.{M, Lent, Log, Outcome, goes, stops, Ran, onward, _>>=_, if_then_else_, pointOf, contactOf}
@@ -24,19 +23,19 @@ use Rattle.tally.specs.declared.Conditions.{Conditions}
 
 -- ---- what a run has behind it
 
--- its log, the steps made, the spots looked at, the spots that failed their test
+-- its log, the steps made, each with what it made, the spots looked at, the spots that failed their test
 pub record Past : Type 0 where
   pub log : Log
-  pub made : ℕ
+  pub made : List Made
   pub spots : List Spot
   pub off : List Spot
 
-abbrev pub past : Log → ℕ → List Spot → List Spot → Past
-past l n s f = record { log = l; made = n; spots = s; off = f }
+abbrev pub past : Log → List Made → List Spot → List Spot → Past
+past l m s f = record { log = l; made = m; spots = s; off = f }
 
 -- nothing but a log
 abbrev pub fresh : Log → Past
-fresh l = past l 0 [] []
+fresh l = past l [] [] []
 
 abbrev pub withLog : Log → Past → Past
 withLog l w = past l (w .made) (w .spots) (w .off)
@@ -61,7 +60,7 @@ abbrev pub cutTo : ℕ → Past → Past
 cutTo n w = withLog (withPoints (take n (w .log .points .records)) (w .log)) w
 
 abbrev pub stepMade : Made → Past → Past
-stepMade s w = past (stepped s (w .log)) (suc (w .made)) (w .spots) (w .off)
+stepMade s w = past (stepped s (w .log)) (w .made ++ (s ∷ [])) (w .spots) (w .off)
 
 -- an evaluation was counted
 abbrev pub evaluatedOnce : Past → Past
@@ -110,11 +109,11 @@ OnWith I Q (again a) w = I a w
 OnWith I Q (over b) w = Q b w
 
 module _ (o : Oracle) where
-  -- a tree run on the course o, after n steps, looks at the spots s and failed tests of the spots f
-  unfoldable pub reach : {A : Type 0} → Tree (Ran A) → ℕ → List Spot → List Spot → Reached A
-  reach (done r) n s f = reached (r .outcome) (past (r .log) n s f)
-  reach (lookNode x z c) n s f = reach (c (seen o x z)) n (noted (spotOk x z) (spot x z) s) (noted (not (spotOk x z)) (spot x z) f)
-  reach (step m t) n s f = reach t (suc n) s f
+  -- a tree run on the course o, after the steps m, looks at the spots s and failed tests of the spots f
+  unfoldable pub reach : {A : Type 0} → Tree (Ran A) → List Made → List Spot → List Spot → Reached A
+  reach (done r) m s f = reached (r .outcome) (past (r .log) m s f)
+  reach (lookNode x z c) m s f = reach (c (seen o x z)) m (noted (spotOk x z) (spot x z) s) (noted (not (spotOk x z)) (spot x z) f)
+  reach (step d t) m s f = reach t (m ++ (d ∷ [])) s f
 
   -- a part of a run with w behind it
   abbrev pub reaches : {A : Type 0} → M A → Past → Reached A
@@ -129,21 +128,21 @@ module _ (o : Oracle) where
   noted-is true p l k = append-assoc l (p ∷ []) k
   noted-is false p l k = refl
 
-  reach-is : {A : Type 0} (t : Tree (Ran A)) (n : ℕ) (s f : List Spot)
-      → reach t n s f ≡ reached (run o t .outcome) (past (run o t .log) (n + stepsOf o t) (s ++ looks o t) (f ++ misses o t))
-  unfolding reach run stepsOf looks misses
-  reach-is (done r) n s f = rw (add-zero, append-nil s, append-nil f)
-  reach-is (lookNode x z c) n s f =
-      reach-is (c (seen o x z)) n _ _ ∙ rw (noted-is (spotOk x z) (spot x z) s _, noted-is (not (spotOk x z)) (spot x z) f _)
-  reach-is (step m t) n s f = reach-is t (suc n) s f ∙ rw (suc-add, add-suc)
+  reach-is : {A : Type 0} (t : Tree (Ran A)) (m : List Made) (s f : List Spot)
+      → reach t m s f ≡ reached (run o t .outcome) (past (run o t .log) (m ++ madeBy o t) (s ++ looks o t) (f ++ misses o t))
+  unfolding reach run madeBy looks misses
+  reach-is (done r) m s f = rw (append-nil m, append-nil s, append-nil f)
+  reach-is (lookNode x z c) m s f =
+      reach-is (c (seen o x z)) m _ _ ∙ rw (noted-is (spotOk x z) (spot x z) s _, noted-is (not (spotOk x z)) (spot x z) f _)
+  reach-is (step d t) m s f = reach-is t (m ++ (d ∷ [])) s f ∙ rw (append-assoc m (d ∷ []) (madeBy o t))
 
   -- what a part of its own leaves, from a log l
   abbrev pub ended : {A : Type 0} → M A → Log → Past
-  ended m l = past (run o (m l) .log) (stepsOf o (m l)) (looks o (m l)) (misses o (m l))
+  ended m l = past (run o (m l) .log) (madeBy o (m l)) (looks o (m l)) (misses o (m l))
 
   pub of-run : {A : Type 0} {P : Past → Type 0} {m : M A} {Q : A → Past → Type 0} {R : ℕ → Past → Type 0}
       → Triple P m Q R → (l : Log) → P (fresh l) → After Q R (run o (m l) .outcome) (ended m l)
-  of-run {m = m} t l p = rw (reach-is (m l) 0 [] [], zero-add) at (t .all (fresh l) p)
+  of-run {m = m} t l p = rw (reach-is (m l) [] [] []) at (t .all (fresh l) p)
 
   -- where it goes on and where it stops alike
   pub of-every-run : {A : Type 0} {P S : Past → Type 0} {m : M A} → Triple P m (λ _. S) (λ _. S) → (l : Log) → P (fresh l) → S (ended m l)
@@ -176,11 +175,20 @@ module _ {o : Oracle} where
         on (goes a) w q = g a .all w q
         on (stops n) w q = q
 
-        through : (t : Tree (Ran A)) (n : ℕ) (s f : List Spot)
-            → Left Q R (reach o t n s f) → Left S R (reach o (bind t (λ r. onward k (r .outcome) (r .log))) n s f)
-        through (done r) n s f q = on (r .outcome) (past (r .log) n s f) q
-        through (lookNode x z c) n s f q = through (c (seen o x z)) n _ _ q
-        through (step m t) n s f q = through t (suc n) s f q
+        through : (t : Tree (Ran A)) (m : List Made) (s f : List Spot)
+            → Left Q R (reach o t m s f) → Left S R (reach o (bind t (λ r. onward k (r .outcome) (r .log))) m s f)
+        through (done r) m s f q = on (r .outcome) (past (r .log) m s f) q
+        through (lookNode x z c) m s f q = through (c (seen o x z)) m _ _ q
+        through (step d t) m s f q = through t (m ++ (d ∷ [])) s f q
+
+    -- two triples of one part are one
+    pub t-both : {P' : Past → Type 0} {Q' : A → Past → Type 0} {R' : ℕ → Past → Type 0} → Triple o P m Q R → Triple o P' m Q' R'
+        → Triple o (λ w. P w × P' w) m (λ a w. Q a w × Q' a w) (λ n w. R n w × R' n w)
+    t-both {Q'} {R'} t u = record { all = λ w p. go (reaches o m w .outcome) _ (t .all w (p .0)) (u .all w (p .1)) }
+      where
+        go : (x : Outcome A) (w : Past) → After Q R x w → After Q' R' x w → After (λ a w. Q a w × Q' a w) (λ n w. R n w × R' n w) x w
+        go (goes a) w q q' = (q, q')
+        go (stops n) w q q' = (q, q')
 
   module _ {A : Type 0} {P : Past → Type 0} {Q : A → Past → Type 0} {R : ℕ → Past → Type 0} where
     -- with a fact of the value that says nothing of the past
@@ -284,15 +292,6 @@ module _ {o : Oracle} where
     unfolding when
     t-when b t f = t-if b (λ _. t) (λ _. t-pure f)
 
-  -- two facts of one part
-  pub t-and : {A : Type 0} {P P' : Past → Type 0} {m : M A} {Q Q' : A → Past → Type 0} {R R' : ℕ → Past → Type 0}
-      → Triple o P m Q R → Triple o P' m Q' R' → Triple o (λ w. P w × P' w) m (λ a w. Q a w × Q' a w) (λ n w. R n w × R' n w)
-  t-and {A} {m = m} {Q} {Q'} {R} {R'} t u = record { all = λ w p. go (reaches o m w .outcome) _ (t .all w (p .0)) (u .all w (p .1)) }
-    where
-      go : (x : Outcome A) (w : Past) → After Q R x w → After Q' R' x w → After (λ a w. Q a w × Q' a w) (λ n w. R n w × R' n w) x w
-      go (goes a) w q q' = (q, q')
-      go (stops n) w q q' = (q, q')
-
   -- nothing is asked, and nothing said
   pub t-any : {A : Type 0} {P : Past → Type 0} (m : M A) → Triple o P m (λ _ _. Unit {0}) (λ _ _. Unit {0})
   t-any {A} m = record { all = λ w _. go (reaches o m w .outcome) _ }
@@ -307,13 +306,20 @@ module _ {o : Oracle} where
         → ((x : X) → Triple o (I x) m Q R) → Triple o (λ w. I (f w) w) m Q R
     t-of f g = record { all = λ w p. g (f w) .all w p }
 
-    -- a loop of passes: I n a before a pass at a with n more steps allowed
+    -- a loop of passes: I n a before a pass at a with n more steps allowed; a pass is made where it is not late
+    pub t-loop-due : {A B : Type 0} (late : A → Bool) (atEnd : A → M B) (pass : A → M (Pass A B)) (I : ℕ → A → Past → Type 0) (Q : B → Past → Type 0)
+        → ((n : ℕ) (a : A) → Triple o (I n a) (atEnd a) Q R)
+        → ((a : A) (w : Past) → I 0 a w → R 23 w)
+        → ((n : ℕ) (a : A) → late a ≡ false → Triple o (I (suc n) a) (pass a) (OnWith (I n) Q) R)
+        → (n : ℕ) (a : A) → Triple o (I n a) (loop n late atEnd pass a) Q R
+    unfolding loop
+    t-loop-due late atEnd pass I Q e z p zero a = t-if (late a) (λ _. e zero a) (λ _. t-stop (z a))
+    t-loop-due late atEnd pass I Q e z p (suc n) a = t-if (late a) (λ _. e (suc n) a)
+        (λ d. t-bind (p n a d) (elim [ again b ↦ t-loop-due late atEnd pass I Q e z p n b | over r ↦ t-pure (λ w q. q) ]))
+
     pub t-loop : {A B : Type 0} (late : A → Bool) (atEnd : A → M B) (pass : A → M (Pass A B)) (I : ℕ → A → Past → Type 0) (Q : B → Past → Type 0)
         → ((n : ℕ) (a : A) → Triple o (I n a) (atEnd a) Q R)
         → ((a : A) (w : Past) → I 0 a w → R 23 w)
         → ((n : ℕ) (a : A) → Triple o (I (suc n) a) (pass a) (OnWith (I n) Q) R)
         → (n : ℕ) (a : A) → Triple o (I n a) (loop n late atEnd pass a) Q R
-    unfolding loop
-    t-loop late atEnd pass I Q e z p zero a = t-if (late a) (λ _. e zero a) (λ _. t-stop (z a))
-    t-loop late atEnd pass I Q e z p (suc n) a = t-if (late a) (λ _. e (suc n) a)
-        (λ _. t-bind (p n a) (elim [ again b ↦ t-loop late atEnd pass I Q e z p n b | over r ↦ t-pure (λ w q. q) ]))
+    t-loop late atEnd pass I Q e z p = t-loop-due late atEnd pass I Q e z (λ n a _. p n a)
