@@ -1,5 +1,5 @@
 /* The doors of the crate capi, for C, Rust and Python. Link libcapi.a (rt staticlib capi, x86-64 Linux) or target/libdimple.so,
- * which `make` builds of it. Lengths count doubles, or bytes for a sheet, an input, a page and a name. Buffers must not overlap. No door keeps a pointer.
+ * which `make` builds of it. Lengths count doubles, or bytes for a sheet, an input, a page, marks and a name. Buffers must not overlap. No door keeps a pointer.
  * Answers: 0, or a number of document 01 or 02 (README.md has the table). 100 and up are the doors' own. */
 #ifndef DIMPLE_H
 #define DIMPLE_H
@@ -42,6 +42,17 @@ uint32_t dimple_card(const uint8_t *input, size_t input_len, double *contacts, s
 uint32_t dimple_aim(const uint8_t *input, size_t input_len, double *contacts, size_t contacts_len, double *points, size_t points_len,
                     double spot_x, double spot_z, double distance, uint64_t forward, uint64_t downward,
                     double *result, size_t result_len, double *landing, size_t landing_len);
+
+/* Holds the times that a bay heard (doubles, at most 256) against the times of the first count contacts of a contact list (20 doubles a record, the time
+ * first; what follows them is not read). Both are walked from the front: fronts of which |heard - contact|, in doubles, is at most the tolerance are
+ * paired, otherwise the earlier one is marked; a list left over is marked. marks (a byte each: 0 paired, 1 heard only, 2 computed only): those of the
+ * heard times, then those of the contacts; bytes past these stay. The k-th heard time marked 0 goes with the k-th contact marked 0. totals (3): pairs,
+ * heard only, computed only.
+ * 100: totals is not 3 doubles, and nothing is touched. Then 8: the contact list is not whole records, or shorter than its count. 39: a heard or contact
+ * time that is no number from 0 to 1,000,000 or lower than the one before in its list, or more than 256 heard. 40: the tolerance is not from 0 to 0.1.
+ * 41: marks is shorter than heard times and contacts together. Tested in this order; on a number the marks are untouched and the totals three +0. */
+uint32_t dimple_listen(const double *heard, size_t heard_len, const double *contacts, size_t contacts_len, uint64_t count, double tolerance,
+                       uint8_t *marks, size_t marks_len, double *totals, size_t totals_len);
 
 /* One ground step. physics: dt, stop_speed, roll_threshold (3). ball: 12. state: time, pos, vel, spin, phase (11).
  * The state is changed on answer 0 alone; the phase is written always, 0 on a number. 100: a length is not the one named, nothing is touched. */

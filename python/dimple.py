@@ -4,6 +4,7 @@
     run = settle(course, Landing(vel=(6.0, -4.0, 0.0)))
     board = Board(pin=(3.0, 0.0)); board.enter(1, run)
     shelf = Shelf(); shelf.save("LIE", run.rest); shelf.return_to("LIE")
+    listen([0.0, 0.41], run, 0.02).pairs
 
 A number of documents 01 and 02 other than 0 is raised as `Refused`, which says in words what is wrong; a run that was stopped (20 to 23) is raised
 as `Stopped`, with what it had got to in its `run`. What cannot be handed to the library at all is a plain `ValueError` (`Refused` is one
@@ -48,6 +49,9 @@ WORDS = {
     33: "the shelf holds 16 names",
     34: "there is no such name on the shelf",
     35: "a side of the grid is not from 1 to 32, the distance not from 0 to 10 m, or the spot beyond 100,000 m",
+    39: "a heard or contact time is no number from 0 to 1,000,000 s or is lower than the one before, or more than 256 were heard",
+    40: "the tolerance is not from 0 to 0.1 s",
+    41: "the list of marks is shorter than heard times and contacts together",
     100: "a buffer has the wrong length",
     101: "the buffer holds no board, or no shelf",
     102: "the termination is none of rest, time and impacts",
@@ -82,6 +86,7 @@ Point = namedtuple("Point", "time pos vel spin phase")
 Rectangle = namedtuple("Rectangle", "x_lo x_hi z_lo z_hi")
 # evaluations: those of all root searches of the run, in hops and in slides
 Run = namedtuple("Run", "answer termination steps rest rectangle contacts points evaluations")
+Listened = namedtuple("Listened", "pairs heard_only computed_only")
 
 GREEN = Surface(0.40, 0.055)
 FAIRWAY = Surface(0.40, 0.12)
@@ -132,6 +137,7 @@ def _library():
     lib.dimple_card.argtypes = lib.dimple_settle.argtypes + [ctypes.c_char_p, size]
     lib.dimple_aim.argtypes = [ctypes.c_char_p, size, doubles, size, doubles, size, ctypes.c_double, ctypes.c_double, ctypes.c_double,
                                ctypes.c_uint64, ctypes.c_uint64, doubles, size, doubles, size]
+    lib.dimple_listen.argtypes = [doubles, size, doubles, size, ctypes.c_uint64, ctypes.c_double, ctypes.c_char_p, size, doubles, size]
     lib.dimple_step.argtypes = [ctypes.c_char_p, size, doubles, size, doubles, size, doubles, size]
     lib.dimple_impact.argtypes = [ctypes.c_char_p, size, doubles, size, doubles, size]
     lib.dimple_height.argtypes = [ctypes.c_char_p, size, ctypes.c_double, ctypes.c_double, doubles, size]
@@ -142,7 +148,8 @@ def _library():
     lib.dimple_shelf_save.argtypes = [doubles, size, ctypes.c_char_p, size, doubles, size]
     lib.dimple_shelf_return.argtypes = [doubles, size, ctypes.c_char_p, size, doubles, size]
     lib.dimple_shelf_drop.argtypes = [doubles, size, ctypes.c_char_p, size]
-    for door in ("settle", "card", "aim", "step", "impact", "height", "board_new", "board_enter", "board_place", "shelf_new", "shelf_save", "shelf_return", "shelf_drop"):
+    for door in ("settle", "card", "aim", "listen", "step", "impact", "height", "board_new", "board_enter", "board_place",
+                 "shelf_new", "shelf_save", "shelf_return", "shelf_drop"):
         getattr(lib, f"dimple_{door}").restype = ctypes.c_uint32
     return lib
 
@@ -223,6 +230,22 @@ def aim(course, spot, distance, landing=Landing(), forward=32, downward=32, phys
     return Landing(*_state(found[:10])), _run(answer, lc, lp, result)
 
 
+def listen(heard, run, tolerance):
+    """Holds the times that a bay's microphones heard against the run's contact times, in seconds, both in order. Both lists are walked from the front:
+    fronts no further apart than the tolerance (0 to 0.1 s) are a pair, else the earlier is left alone. Gives three lists of places, counted from 0: `pairs`
+    of a place in `heard` and one in `run.contacts`, the places of the times `heard_only`, and those of the contacts `computed_only`."""
+    times, contacts = list(heard), [_contact_fields(c) for c in run.contacts]
+    h, c, totals = _doubles(len(times), *times), _doubles(20 * len(contacts), *(x for f in contacts for x in f)), _doubles(3)
+    marks = ctypes.create_string_buffer(len(times) + len(contacts))
+    _accept(_call("dimple_listen", h, len(h), c, len(c), len(contacts), *_doubles(1, tolerance), marks, len(marks), totals, 3))
+    of_heard, of_contacts = marks.raw[:len(times)], marks.raw[len(times):]
+
+    def places(of, mark):
+        return [i for i, m in enumerate(of) if m == mark]
+
+    return Listened(list(zip(places(of_heard, 0), places(of_contacts, 0))), places(of_heard, 1), places(of_contacts, 2))
+
+
 @contextlib.contextmanager
 def _progress(what):
     """While the call runs, a line with the seconds so far, on standard error."""
@@ -248,6 +271,10 @@ def _state(d):
 
 def _contact(d):
     return Contact(d[0], tuple(d[1:4]), tuple(d[4:7]), int(d[7]), *(tuple(d[i:i + 3]) for i in (8, 11, 14, 17)))
+
+
+def _contact_fields(c):
+    return (c.time, *c.pos, *c.normal, c.surface, *c.vel_in, *c.vel_out, *c.spin_in, *c.spin_out)
 
 
 def _point(d):

@@ -8,6 +8,7 @@ mod faults;
 mod guesses;
 mod history;
 mod leaves;
+mod listen;
 mod shelf;
 mod shots;
 mod speed;
@@ -513,6 +514,7 @@ fn main() {
         Some("board") => board::run(seed, value("--calls", 500_000), n),
         Some("aim") => aim::run(seed, value("--cases", 20_000), value("--grids", 20), n),
         Some("leaves") => leaves::run(seed, value("--share", 100), n, args.get(1).map_or("", |a| a.as_str())),
+        Some("listen") => listen::run(seed, value("--cases", 1_000_000), n),
         Some("shelf") => shelf::run(seed, value("--calls", 200_000), n),
         Some("replay") => replay_mode(args.get(1).map_or("../crates/replay/data/replay.bin", |a| a.as_str())),
         Some("speed") => speed::run(),
@@ -520,7 +522,7 @@ fn main() {
         Some("unpatched") => unpatched::run(seed, value("--shots", 100_000), n),
         _ => {
             println!(
-                "compare settle [--shots N] | doors [--cases N] | aim [--cases N] [--grids N] | board [--calls N] | card [--cards N] | leaves [NAME] [--share PERCENT] | shelf [--calls N] | replay [FILE] | speed | faults | unpatched [--shots N]"
+                "compare settle [--shots N] | doors [--cases N] | aim [--cases N] [--grids N] | board [--calls N] | card [--cards N] | leaves [NAME] [--share PERCENT] | listen [--cases N] | shelf [--calls N] | replay [FILE] | speed | faults | unpatched [--shots N]"
             );
             println!("        [--seed N] [--threads N] [--first]");
             std::process::exit(2);

@@ -1,6 +1,8 @@
 pub mod Doors
 pub mod Cards
 pub mod Aims
+pub mod Listens
 pub mod Boards
 pub mod Entered
 pub mod Chain
+pub mod Heard

@@ -1,10 +1,11 @@
-// What other languages call. Lengths count doubles, or bytes for a sheet, an input and a page. Every call is taken and answered; 100 and up are these
-// functions' own answers.
+// What other languages call. Lengths count doubles, or bytes for a sheet, an input, a page and marks. Every call is taken and answered; 100 and up are
+// these functions' own answers.
 ghost use mathlib.Core.Path.{_≡_};
 ghost use lib.ListN.{length};
 ghost use Rattle.capi.specs.Doors.{reported, stepped, struck, door, settleDoor, settleDoorOf, stepDoorOf, impactDoorOf, heightDoorOf};
 ghost use Rattle.capi.specs.Aims.{aimDoor, aimDoorOf};
 ghost use Rattle.capi.specs.Cards.{cardDoor, cardDoorOf};
+ghost use Rattle.capi.specs.Listens.{listenDoor, listenDoorOf};
 ghost use Rattle.layout.specs.Layout.{boardLength, boardAt};
 ghost use Rattle.capi.specs.Boards.{entered, sentOf, newDoorOf, enterDoorOf, placeDoorOf};
 ghost use Rattle.shelf_layout.specs.Doors.{answered, shelfNewDoorOf, shelfSaveDoorOf, shelfReturnDoorOf, shelfDropDoorOf};
@@ -109,6 +110,30 @@ pub extern "C" fn dimple_aim(
     let s = aim_door::aim_into(input, target, forward, downward, contacts, points, landing);
     write_result(result, s);
     s.answer
+}
+
+#[no_mangle]
+pub extern "C" fn dimple_listen(
+    heard: &[f64],
+    contacts: &[f64],
+    count: u64,
+    tolerance: f64,
+    marks: &mut [u8],
+    totals: &mut [f64],
+) -> u32
+    ensures { λ r. ⌜ listenDoor r (now (marks .exit)) (now (totals .exit)) ≡ listenDoorOf (now (heard .entry)) (now (contacts .entry)) count tolerance (now (marks .entry)) (now (totals .entry)) ⌝ }
+{
+    if totals.len() != 3 {
+        return 100;
+    }
+    let h = listen::listen(heard, contacts, count, tolerance, marks);
+    let rec = [
+        fields::whole(h.pairs as u64),
+        fields::whole(h.heard_only as u64),
+        fields::whole(h.computed_only as u64),
+    ];
+    fields::put(totals, 0, &rec);
+    h.answer
 }
 
 // The new state and its phase; on a number the phase alone, 0.
