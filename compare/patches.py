@@ -213,8 +213,30 @@ COUNTS = {
     ],
 }
 
+# The second settle (02, paper 13), written out around the reference's own parts: "after each hop step of length h, the spin becomes the old spin times
+# exp(-(0.04 h)), before that state is tested. Each step flies with the spin it began with, and an arrival keeps that same spin."
+FADING = {
+    "ground.rs": [
+        ("        let aero = AeroParams::from_spin_vector(start.spin);\n",
+         "        let mut spin = start.spin;\n        let aero = std::cell::Cell::new(AeroParams::from_spin_vector(spin));\n", 1),
+        ("                ball.acceleration(vel, &aero, air_density)\n", "                ball.acceleration(vel, &aero.get(), air_density)\n", 1),
+        ("                    vel: s.vel,\n                    spin: start.spin,\n                });\n",
+         "                    vel: s.vel,\n                    spin,\n                });\n", 1),
+        (f"            {RUN}.made();\n            {RUN}.test(BallState {{ time: t + h, pos: b.pos, vel: b.vel, spin: start.spin }}",
+         f"            {RUN}.made();\n"
+         f"            let faded = if {RUN}.fading.get() {{ spin * (-(0.04 * h)).exponential() }} else {{ spin }};\n"
+         f"            {RUN}.test(BallState {{ time: t + h, pos: b.pos, vel: b.vel, spin: faded }}", 1),
+        ("self.hop_arrival(s, t, h, end, start.spin, |tau|", "self.hop_arrival(s, t, h, end, spin, |tau|", 2),
+        ("            s = b;\n            t += h;\n",
+         "            s = b;\n            t += h;\n"
+         f"            if {RUN}.fading.get() {{\n                spin = faded;\n                aero.set(AeroParams::from_spin_vector(spin));\n            }}\n", 1),
+        ("                    vel: s.vel,\n                    spin: start.spin,\n                };\n",
+         "                    vel: s.vel,\n                    spin,\n                };\n", 1),
+    ],
+}
+
 # in this order: the stand-ins rename methods that the additions' texts still show by their std names
-ORDER = [IMPORTS, ADDITIONS, COUNTS, STAND_INS]
+ORDER = [IMPORTS, ADDITIONS, COUNTS, STAND_INS, FADING]
 
 # Planted differences, one a build of the mock library: each must be found by the comparison.
 PLANTS = {

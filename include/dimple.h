@@ -22,6 +22,11 @@ extern "C" {
 uint32_t dimple_settle(const uint8_t *input, size_t input_len, double *contacts, size_t contacts_len,
                        double *points, size_t points_len, double *result, size_t result_len);
 
+/* The second settle: as dimple_settle, but the spin fades in the air. After each hop step of length h it becomes the old spin times exp(-(0.04 * h)),
+ * each component by the factor, before the step's state is tested; a step flies with the spin that it began with, and an arrival keeps that spin. */
+uint32_t dimple_settle_fading(const uint8_t *input, size_t input_len, double *contacts, size_t contacts_len,
+                              double *points, size_t points_len, double *result, size_t result_len);
+
 /* Settles a landing as dimple_settle does, and prints a run that finished on the page (bytes in ASCII), in lines of exactly 60 bytes, the last a
  * line feed: a heading, the termination's word (rest, time, impacts) and spaces, then a line a contact: its number, from 1 (4 wide), time in
  * milliseconds (11), x, y, z in centimetres (14 each), right-aligned with spaces, then two spaces. Each value is the whole number nearest the

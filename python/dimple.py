@@ -134,6 +134,7 @@ def _library():
     lib = ctypes.CDLL(LIBRARY)
     doubles, size = ctypes.POINTER(ctypes.c_double), ctypes.c_size_t
     lib.dimple_settle.argtypes = [ctypes.c_char_p, size, doubles, size, doubles, size, doubles, size]
+    lib.dimple_settle_fading.argtypes = lib.dimple_settle.argtypes
     lib.dimple_card.argtypes = lib.dimple_settle.argtypes + [ctypes.c_char_p, size]
     lib.dimple_aim.argtypes = [ctypes.c_char_p, size, doubles, size, doubles, size, ctypes.c_double, ctypes.c_double, ctypes.c_double,
                                ctypes.c_uint64, ctypes.c_uint64, doubles, size, doubles, size]
@@ -148,7 +149,7 @@ def _library():
     lib.dimple_shelf_save.argtypes = [doubles, size, ctypes.c_char_p, size, doubles, size]
     lib.dimple_shelf_return.argtypes = [doubles, size, ctypes.c_char_p, size, doubles, size]
     lib.dimple_shelf_drop.argtypes = [doubles, size, ctypes.c_char_p, size]
-    for door in ("settle", "card", "aim", "listen", "step", "impact", "height", "board_new", "board_enter", "board_place",
+    for door in ("settle", "settle_fading", "card", "aim", "listen", "step", "impact", "height", "board_new", "board_enter", "board_place",
                  "shelf_new", "shelf_save", "shelf_return", "shelf_drop"):
         getattr(lib, f"dimple_{door}").restype = ctypes.c_uint32
     return lib
@@ -182,11 +183,11 @@ def settle_input(course, landing, physics=Physics(), ball=TOUR, air_density=1.22
     return head + body + course.sheet
 
 
-def settle(course, landing, physics=Physics(), ball=TOUR, air_density=1.225, step_limit=1_000_000, contacts=256, points=16384):
-    """The run of a landing to its end, as a `Run`."""
+def settle(course, landing, physics=Physics(), ball=TOUR, air_density=1.225, step_limit=1_000_000, contacts=256, points=16384, fading=False):
+    """The run of a landing to its end, as a `Run`. With fading=True the spin fades in the air, by exp(-0.04 h) in a hop step of h seconds."""
     data = settle_input(course, landing, physics, ball, air_density, step_limit)
     lc, lp, result = _doubles(20 * contacts), _doubles(11 * points), _doubles(20)
-    answer = _call("dimple_settle", data, len(data), lc, len(lc), lp, len(lp), result, len(result))
+    answer = _call("dimple_settle_fading" if fading else "dimple_settle", data, len(data), lc, len(lc), lp, len(lp), result, len(result))
     return _run(answer, lc, lp, result)
 
 

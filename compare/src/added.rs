@@ -100,6 +100,8 @@ pub struct Run {
     pub looks: Option<RefCell<Vec<(f64, f64)>>>,
     /// Whether 22 is tested; `compare faults` turns it off to see what the Rust alone does.
     pub tested: bool,
+    /// Whether the spin fades in the air: 02's paper 13.
+    pub fading: Cell<bool>,
 }
 
 /// Finite and of magnitude at most 1,000,000.
@@ -125,6 +127,7 @@ impl Run {
             place: Cell::new(Hit::look_22_train),
             looks: log.then(|| RefCell::new(Vec::new())),
             tested: true,
+            fading: Cell::new(false),
         }
     }
 

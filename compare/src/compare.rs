@@ -31,6 +31,17 @@ unsafe extern "C" {
         result: *mut f64,
         result_len: usize,
     ) -> u32;
+    #[cfg(has_dimple_settle_fading)]
+    fn dimple_settle_fading(
+        input: *const u8,
+        input_len: usize,
+        contacts: *mut f64,
+        contacts_len: usize,
+        points: *mut f64,
+        points_len: usize,
+        result: *mut f64,
+        result_len: usize,
+    ) -> u32;
     #[cfg(has_dimple_card)]
     fn dimple_card(
         input: *const u8,
@@ -104,6 +115,28 @@ pub fn lib_settle(input: &[u8], contacts: &mut [f64], points: &mut [f64], result
             result.len(),
         )
     }
+}
+
+#[cfg(has_dimple_settle_fading)]
+pub fn lib_settle_fading(input: &[u8], contacts: &mut [f64], points: &mut [f64], result: &mut [f64]) -> u32 {
+    unsafe {
+        dimple_settle_fading(
+            input.as_ptr(),
+            input.len(),
+            contacts.as_mut_ptr(),
+            contacts.len(),
+            points.as_mut_ptr(),
+            points.len(),
+            result.as_mut_ptr(),
+            result.len(),
+        )
+    }
+}
+
+#[cfg(not(has_dimple_settle_fading))]
+pub fn lib_settle_fading(_: &[u8], _: &mut [f64], _: &mut [f64], _: &mut [f64]) -> u32 {
+    println!("the library has no dimple_settle_fading");
+    std::process::exit(2);
 }
 
 #[cfg(has_dimple_card)]
@@ -281,22 +314,22 @@ impl Counts {
     }
 }
 
-/// One settle on both sides; list lengths count doubles.
-fn check(r: &mut Rng, c: &mut Counts, what: &str, input: &[u8], contacts_len: usize, points_len: usize) -> Outcome {
+/// One settle on both sides, by the first settle or the fading one; list lengths count doubles.
+fn check(r: &mut Rng, c: &mut Counts, fading: bool, what: &str, input: &[u8], contacts_len: usize, points_len: usize) -> Outcome {
     let result_len = if r.chance(20) { r.below(24) } else { RESULT };
     let mut contacts = Lent::new(r, contacts_len);
     let mut points = Lent::new(r, points_len);
     let mut result = Lent::new(r, result_len);
     take_hits();
-    let out = oracle::settle(input, contacts_len, points_len, false);
+    let out = oracle::settle_by(fading, input, contacts_len, points_len, false);
     oracle::write_settle(
         &out,
         &mut contacts.expected[..contacts_len],
         &mut points.expected[..points_len],
         &mut result.expected[..result_len],
     );
-    let answer =
-        lib_settle(input, &mut contacts.given[..contacts_len], &mut points.given[..points_len], &mut result.given[..result_len]);
+    let call = if fading { lib_settle_fading } else { lib_settle };
+    let answer = call(input, &mut contacts.given[..contacts_len], &mut points.given[..points_len], &mut result.given[..result_len]);
     if answer != out.answer {
         different(what, format!("answer {answer}, expected {} (lists {contacts_len}, {points_len})", out.answer), input);
     } else {
@@ -318,18 +351,18 @@ fn check(r: &mut Rng, c: &mut Counts, what: &str, input: &[u8], contacts_len: us
     out
 }
 
-fn check_all(r: &mut Rng, c: &mut Counts, cases: Vec<Case>) {
+fn check_all(r: &mut Rng, c: &mut Counts, fading: bool, cases: Vec<Case>) {
     for k in cases {
-        check(r, c, k.what, &k.bytes, k.contacts, k.points);
+        check(r, c, fading, k.what, &k.bytes, k.contacts, k.points);
     }
 }
 
 /// The random part: one seed, any number of shots.
-fn random_part(seed: u64, shots: u64, c: &mut Counts) {
+fn random_part(seed: u64, shots: u64, fading: bool, c: &mut Counts) {
     let mut r = Rng(seed);
     for i in 0..shots {
         let cases = random_cases(&mut r, i);
-        check_all(&mut r, c, cases);
+        check_all(&mut r, c, fading, cases);
     }
 }
 
@@ -422,25 +455,25 @@ pub fn threads<T: Send>(n: u64, work: impl Fn(u64) -> T + Sync) -> Vec<T> {
     })
 }
 
-fn settle_mode(seed: u64, shots: u64, n: u64) {
-    println!("settle: seed {seed}, {shots} shots, {n} threads");
+fn settle_mode(seed: u64, shots: u64, fading: bool, n: u64) {
+    println!("{}: seed {seed}, {shots} shots, {n} threads", if fading { "fading" } else { "settle" });
     let mut total = Counts::default();
     for c in threads(n, |i| {
         let mut c = Counts::default();
         let mut r = Rng(seed.wrapping_mul(1000) + 500 + i);
         if i == 0 {
             for cases in [bench_cases(), length_cases(&mut r), number_cases()] {
-                check_all(&mut r, &mut c, cases);
+                check_all(&mut r, &mut c, fading, cases);
             }
         }
         for _ in 0..shots / 200 / n {
             let cases = list_cases(&mut r);
-            check_all(&mut r, &mut c, cases);
+            check_all(&mut r, &mut c, fading, cases);
         }
-        random_part(seed.wrapping_mul(1000) + i, shots / n, &mut c);
+        random_part(seed.wrapping_mul(1000) + i, shots / n, fading, &mut c);
         for k in 0..shots / 40 / n {
             let cases = beyond_cases(&mut r, k % 400 == 0);
-            check_all(&mut r, &mut c, cases);
+            check_all(&mut r, &mut c, fading, cases);
         }
         c
     }) {
@@ -508,7 +541,8 @@ fn main() {
     let seed = value("--seed", 1);
     let n = value("--threads", 2).max(1);
     match args.first().map(String::as_str) {
-        Some("settle") => settle_mode(seed, value("--shots", 100_000), n),
+        Some("settle") => settle_mode(seed, value("--shots", 100_000), false, n),
+        Some("fading") => settle_mode(seed, value("--shots", 100_000), true, n),
         Some("card") => card::run(seed, value("--cards", 100_000), n),
         Some("doors") => doors_mode(seed, value("--cases", 200_000), n),
         Some("board") => board::run(seed, value("--calls", 500_000), n),

@@ -19,7 +19,30 @@ mod capi {
         result_len: usize,
     ) -> u32 {
         unsafe {
-            oracle::settle_door(
+            oracle::settle_door_by(
+                false,
+                from_raw_parts(input, input_len),
+                from_raw_parts_mut(contacts, contacts_len),
+                from_raw_parts_mut(points, points_len),
+                from_raw_parts_mut(result, result_len),
+            )
+        }
+    }
+
+    #[unsafe(no_mangle)]
+    pub unsafe extern "C" fn dimple_settle_fading(
+        input: *const u8,
+        input_len: usize,
+        contacts: *mut f64,
+        contacts_len: usize,
+        points: *mut f64,
+        points_len: usize,
+        result: *mut f64,
+        result_len: usize,
+    ) -> u32 {
+        unsafe {
+            oracle::settle_door_by(
+                true,
                 from_raw_parts(input, input_len),
                 from_raw_parts_mut(contacts, contacts_len),
                 from_raw_parts_mut(points, points_len),

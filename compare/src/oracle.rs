@@ -222,6 +222,11 @@ fn point_record(p: &GroundPoint) -> [f64; POINT] {
 
 /// A settle; list lengths count doubles.
 pub fn settle(input: &[u8], contacts_len: usize, points_len: usize, log: bool) -> Outcome {
+    settle_by(false, input, contacts_len, points_len, log)
+}
+
+/// The first settle, or the second, in which the spin fades.
+pub fn settle_by(fading: bool, input: &[u8], contacts_len: usize, points_len: usize, log: bool) -> Outcome {
     if input.len() < HEAD || input.len() > MOST {
         return Outcome::refused(12);
     }
@@ -254,6 +259,7 @@ pub fn settle(input: &[u8], contacts_len: usize, points_len: usize, log: bool) -
         return Outcome::refused(7);
     }
     let run = Run::new(state_of(&f[20..30]), step_limit, contacts_len / CONTACT, points_len / POINT, log);
+    run.fading.set(fading);
     settle_untested(&f, max_impacts, Course { surfaces, areas, run })
 }
 
@@ -314,7 +320,12 @@ fn stopped(stop: Box<dyn std::any::Any + Send>) -> u32 {
 
 /// `dimple_settle`.
 pub fn settle_door(input: &[u8], contacts: &mut [f64], points: &mut [f64], result: &mut [f64]) -> u32 {
-    let out = settle(input, contacts.len(), points.len(), false);
+    settle_door_by(false, input, contacts, points, result)
+}
+
+/// `dimple_settle` and `dimple_settle_fading`.
+pub fn settle_door_by(fading: bool, input: &[u8], contacts: &mut [f64], points: &mut [f64], result: &mut [f64]) -> u32 {
+    let out = settle_by(fading, input, contacts.len(), points.len(), false);
     write_settle(&out, contacts, points, result);
     out.answer
 }

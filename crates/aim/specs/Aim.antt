@@ -56,7 +56,7 @@ grid b forward downward = rows b downward forward 1
 
 -- the shot from another landing
 abbrev pub shotFrom : Shot → BallState → Shot
-shotFrom s b = record { physics = s .physics; «step_limit» = s .«step_limit»; ball = s .ball; «air_density» = s .«air_density»; landing = b }
+shotFrom s b = record { physics = s .physics; «step_limit» = s .«step_limit»; ball = s .ball; «air_density» = s .«air_density»; landing = b; fading = s .fading }
 
 abbrev pub isRest : Termination → Bool
 isRest Nothing = false

@@ -100,6 +100,7 @@ fn shot_from(shot: Shot, landing: BallState) -> Shot
         ball,
         air_density: shot.air_density,
         landing,
+        fading: shot.fading,
     }
 }
 

@@ -24,7 +24,7 @@ fn aim_input(
     if 34048 < input.len() {
         return aim::no_aim(12);
     }
-    let shot = input::shot_at(input);
+    let shot = input::shot_at(input, false);
     aim::aim(
         &input[240..],
         shot,

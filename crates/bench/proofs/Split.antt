@@ -178,7 +178,7 @@ abbrev landing : BallState
 landing = record { time = dec 0 1; pos = vec (dec 995 1000) (dec 0 1) (dec 0 1); vel = vec (dec 1 1) (dec 0 1) (dec 0 1); spin = zero3 }
 
 abbrev shot : Shot
-shot = record { physics = physics; «step_limit» = 10; ball = tour; «air_density» = dec 1225 1000; landing = landing }
+shot = record { physics = physics; «step_limit» = 10; ball = tour; «air_density» = dec 1225 1000; landing = landing; fading = false }
 
 zeros : ℕ → List Float
 zeros n = replicate n (dec 0 1)

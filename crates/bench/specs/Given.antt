@@ -2,6 +2,7 @@
 use Prim.Native.Nat.{ℕ, zero, suc, _+_, _/_, _%_}
 use Prim.Native.Char.{code}
 use Prim.Native.String.{String, len, charAt}
+use mathlib.Core.Bool.{false}
 use mathlib.Core.List.{List, [], _∷_, _++_}
 use lib.Ieee.{Float, binary64, toBits}
 use Rattle.number.specs.Ops.{dec}
@@ -106,7 +107,7 @@ atZero = record { time = dec 0 1; pos = zero3; vel = zero3; spin = zero3 }
 
 -- with this step_limit and landing
 abbrev pub shotS : ℕ → BallState → Shot
-shotS limit landing = record { physics = physicsNew; «step_limit» = limit; ball = tour; «air_density» = dec 1225 1000; landing = landing }
+shotS limit landing = record { physics = physicsNew; «step_limit» = limit; ball = tour; «air_density» = dec 1225 1000; landing = landing; fading = false }
 
 abbrev pub fieldsS : List ℕ
 fieldsS = fieldsOf (shotS 1000 atZero)

@@ -3,3 +3,4 @@ pub mod Definitions
 pub mod Given
 pub mod Shots
 pub mod Looks
+pub mod Fading

@@ -2,6 +2,7 @@
 -- (compare/data/looks.txt, whose inputs these are).
 use Prim.Native.Nat.{ℕ, _*_}
 use mathlib.Core.Path.{_≡_, refl}
+use mathlib.Core.Bool.{false}
 use mathlib.Core.List.{List, [], _∷_}
 use lib.ListN.{replicate}
 use lib.Ieee.{Float, binary64, ofBits, neg}
@@ -22,7 +23,7 @@ use Rattle.bench.specs.Given.{sheetOf}
 
 -- ---- the shots
 
-abbrev physics : GroundPhysics
+abbrev pub physics : GroundPhysics
 physics =
     record {
       dt = dec 1 100;
@@ -33,7 +34,7 @@ physics =
       «max_time» = dec 4 100;
     }
 
-abbrev surface : Surface
+abbrev pub surface : Surface
 surface = record {
   restitution = Restitution.Constant (dec 35 100);
   «mu_slide» = dec 40 100;
@@ -43,11 +44,11 @@ surface = record {
   pivot = dec 1 1000;
 }
 
-abbrev landing : BallState
+abbrev pub landing : BallState
 landing = record { time = dec 0 1; pos = zero3; vel = vec (dec 1 1) (neg (dec 32 100)) (dec 5 10); spin = vec (dec 0 1) (dec 5 1) (dec 20 1) }
 
 abbrev shot : Float → Shot
-shot density = record { physics = physics; «step_limit» = 100; ball = tour; «air_density» = density; landing = landing }
+shot density = record { physics = physics; «step_limit» = 100; ball = tour; «air_density» = density; landing = landing; fading = false }
 
 -- the looks at this density, with 64 contacts and 640 points lent
 abbrev looksIn : Float → List Spot

@@ -1,6 +1,6 @@
 -- Definitions. What each exported function gives: its answer and all that it was lent (include/dimple.h).
 use Prim.Native.Nat.{ℕ}
-use mathlib.Core.Bool.{_&&_, cond}
+use mathlib.Core.Bool.{Bool, true, false, _&&_, cond}
 use mathlib.Core.List.{List, [], _∷_, _++_}
 use lib.Dec.{leb, eqb}
 use lib.ListN.{length}
@@ -14,7 +14,7 @@ use Rattle.ground.specs.declared.Settled.{Settled}
 use Rattle.ground.specs.declared.StepOut.{StepOut}
 use Rattle.ground.specs.declared.ImpactOut.{ImpactOut}
 use Rattle.fields.specs.Fields.{wholeOf, doubleAt, stateAt, ballAt, stateFields, written}
-use Rattle.input.specs.Input.{settleInputOf}
+use Rattle.input.specs.Input.{settleInputBy}
 
 -- least x, greatest x, least z, greatest z
 abbrev pub rectFields : Rect → List Float
@@ -48,11 +48,17 @@ pub record Door : Type 0 where
 abbrev pub door : ℕ → List Float → Door
 door a l = record { answer = a; list = l }
 
--- ---- dimple_settle: the settle of the input, and its result
-unfoldable pub settleDoorOf : List ℕ → List Float → List Float → List Float → SettleDoor
-settleDoorOf input c p l =
-    let w = settleInputOf input c p in
+-- ---- dimple_settle, dimple_settle_fading: the settle of the input, by the first and by the second, and its result
+unfoldable pub settleDoorBy : Bool → List ℕ → List Float → List Float → List Float → SettleDoor
+settleDoorBy fading input c p l =
+    let w = settleInputBy fading input c p in
     settleDoor (w .settled .answer) (w .contacts) (w .points) (reported (w .settled) l)
+
+abbrev pub settleDoorOf : List ℕ → List Float → List Float → List Float → SettleDoor
+settleDoorOf = settleDoorBy false
+
+abbrev pub settleFadingDoorOf : List ℕ → List Float → List Float → List Float → SettleDoor
+settleFadingDoorOf = settleDoorBy true
 
 -- ---- dimple_step: physics (3: dt, stop_speed, roll_threshold), ball (12), state (11: time, pos, vel, spin, phase)
 

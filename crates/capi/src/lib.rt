@@ -2,7 +2,7 @@
 // these functions' own answers.
 ghost use mathlib.Core.Path.{_≡_};
 ghost use lib.ListN.{length};
-ghost use Rattle.capi.specs.Doors.{reported, stepped, struck, door, settleDoor, settleDoorOf, stepDoorOf, impactDoorOf, heightDoorOf};
+ghost use Rattle.capi.specs.Doors.{reported, stepped, struck, door, settleDoor, settleDoorOf, settleFadingDoorOf, stepDoorOf, impactDoorOf, heightDoorOf};
 ghost use Rattle.capi.specs.Aims.{aimDoor, aimDoorOf};
 ghost use Rattle.capi.specs.Cards.{cardDoor, cardDoorOf};
 ghost use Rattle.capi.specs.Listens.{listenDoor, listenDoorOf};
@@ -64,7 +64,21 @@ pub extern "C" fn dimple_settle(
 ) -> u32
     ensures { λ r. ⌜ settleDoor r (now (contacts .exit)) (now (points .exit)) (now (result .exit)) ≡ settleDoorOf (now (input .entry)) (now (contacts .entry)) (now (points .entry)) (now (result .entry)) ⌝ }
 {
-    let s = input::settle_input(input, contacts, points);
+    let s = input::settle_input(input, false, contacts, points);
+    write_result(result, s);
+    s.answer
+}
+
+#[no_mangle]
+pub extern "C" fn dimple_settle_fading(
+    input: &[u8],
+    contacts: &mut [f64],
+    points: &mut [f64],
+    result: &mut [f64],
+) -> u32
+    ensures { λ r. ⌜ settleDoor r (now (contacts .exit)) (now (points .exit)) (now (result .exit)) ≡ settleFadingDoorOf (now (input .entry)) (now (contacts .entry)) (now (points .entry)) (now (result .entry)) ⌝ }
+{
+    let s = input::settle_input(input, true, contacts, points);
     write_result(result, s);
     s.answer
 }

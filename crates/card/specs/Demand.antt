@@ -19,7 +19,7 @@ use Rattle.octets.specs.Octets.{little}
 use Rattle.course.specs.Sheet.{Accepted, courseOf}
 use Rattle.ground.specs.Settle.{Result, result, settleOf}
 use Rattle.promises.specs.Demand.{demand-3}
-use Rattle.input.specs.Input.{wholeAt, realAt, vecAt, physicsAt, ballAt, landingAt, shotAt, sheetAt, settleInputOf}
+use Rattle.input.specs.Input.{wholeAt, realAt, vecAt, physicsAt, ballAt, landingAt, shotBy, shotAt, sheetAt, settleInputBy, settleInputOf}
 use Rattle.card.specs.Card.{textOf, tooShort, Carded, carded, printedOf, cardOf}
 
 -- ---- the fields before a sheet do not depend on it
@@ -87,13 +87,13 @@ module _ (f a : List ℕ) (h : length f ≡ 240) where
       )
 
   shot-same : shotAt (f ++ a) ≡ shotAt f
-  unfolding shotAt
+  unfolding shotBy
   shot-same = rw (physics-same, whole-same 6 (omega arith), ball-same, real-same 19 (omega arith), landing-same)
 
   -- the settle of such an input
   settles : length a ≤ 33808 → (cs ps : List Float)
       → settleInputOf (f ++ a) cs ps ≡ settleOf a (shotAt f) cs ps
-  unfolding settleInputOf
+  unfolding settleInputBy
   settles l cs ps =
       let n = length-append f a in
       let p : 240 ≤ length (f ++ a) = omega arith in

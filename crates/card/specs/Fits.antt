@@ -24,7 +24,7 @@ use Rattle.promises.specs.Terms.{Each, ContactOf}
 use Rattle.promises.specs.Finite.{Leaves, settle-leaves}
 use Rattle.promises.specs.Promises.{answered, most-contacts}
 use Rattle.fields.specs.Fields.{doubleAt}
-use Rattle.input.specs.Input.{shotAt, sheetAt, settleInputOf}
+use Rattle.input.specs.Input.{shotAt, sheetAt, settleInputBy, settleInputOf}
 use Rattle.card.specs.Card.{headingLine, contactAt, linesOf, textOf}
 use Rattle.card.specs.Inner.{Place, Spot, Printable}
 use Rattle.card.specs.Columns.{Fit, spot-fits, heading-60, line-60, lines-60}
@@ -116,7 +116,7 @@ module _ (input : List ℕ) (cs ps : List Float) (h : settleInputOf input cs ps 
 
   -- its input is not refused for its length
   taken : settleInputOf input cs ps ≡ run
-  unfolding settleInputOf
+  unfolding settleInputBy
   taken = go (leb 240 (length input) && leb (length input) 34048) refl
     where
       go : (b : Bool) → (leb 240 (length input) && leb (length input) 34048) ≡ b → settleInputOf input cs ps ≡ run

@@ -89,7 +89,7 @@ pub fn card(input: &[u8], contacts: &mut [f64], points: &mut [f64], page: &mut [
     ensures { λ r. ⌜ carded (result r (now (contacts .exit)) (now (points .exit))) (now (page .exit))
         ≡ cardOf (now (input .entry)) (now (contacts .entry)) (now (points .entry)) (now (page .entry)) ⌝ }
 {
-    let s = input::settle_input(input, contacts, points);
+    let s = input::settle_input(input, false, contacts, points);
     if s.answer != 0 {
         return s;
     }

@@ -86,6 +86,7 @@ conditionsOf s = record {
   ball = s .ball;
   «air_density» = s .«air_density»;
   «t_end» = s .landing .time ⊕ s .physics .«max_time»;
+  fading = s .fading;
 }
 
 -- the log before the first look, with lists of nc and np doubles

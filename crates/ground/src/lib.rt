@@ -129,6 +129,7 @@ fn conditions(shot: Shot) -> Conditions
         ball,
         air_density: shot.air_density,
         t_end: landing.time + physics.max_time,
+        fading: shot.fading,
     }
 }
 

@@ -21,7 +21,7 @@ use Rattle.hop.specs.Hop.{flight, stepArc, stepEnd, hopNext, hopStep}
 use Rattle.hop.specs.declared.Flight.{Flight}
 use Rattle.hop.specs.declared.Way.{Way}
 
-module _ (f : Flight) (arc : Arc) where
+module _ (c : Conditions) (f : Flight) (arc : Arc) where
   abbrev pub toArrive : BallState → Float → M (Pass Flight Way)
   toArrive b end = hopArrival arc f.state.time end f.state.spin >>= hopNext f b
 
@@ -29,11 +29,11 @@ module _ (f : Flight) (arc : Arc) where
   toClear b = clearance b.pos >>= toArrive b
 
   abbrev pub toTest : M (Pass Flight Way)
-  toTest = test (stepEnd arc f.state) >>= toClear
+  toTest = test (stepEnd c arc f.state) >>= toClear
 
 -- the step is made and counted
 pub stepped : {o : Oracle} {t t' : Tally} {lc lp : List Float} (c : Conditions) (aero : AeroParams) (f : Flight) {arc : Arc} → arc ≡ stepArc c aero f.state
-    → MakesStep t 0 t' → Reached o (hopStep c aero f) (place t lc lp) 1 (toTest f arc) (place t' lc lp)
+    → MakesStep t 0 t' → Reached o (hopStep c aero f) (place t lc lp) 1 (toTest c f arc) (place t' lc lp)
 unfolding hopStep
 stepped c aero f e r = rw (← e) (step-made _ _ begun r)
 

@@ -1,10 +1,13 @@
--- Definitions. A hop: ground.rs, fn hop, with the tests and the count of steps that 01 adds.
+-- Definitions. A hop: ground.rs, fn hop, with the tests and the count of steps that 01 adds, and the spin that fades in the second settle (02, paper 13).
 use Prim.Native.Nat.{ℕ}
-use mathlib.Core.Bool.{false}
+use mathlib.Core.Bool.{Bool, false, cond}
 use mathlib.Core.Option.{Option, none, some}
-use lib.Ieee.{Float}
-use Rattle.number.specs.Ops.{_⊕_, _⊖_}
+use lib.Ieee.{Float, neg}
+use Rattle.number.specs.Ops.{_⊕_, _⊖_, _⊗_, dec}
 use Rattle.number.specs.Number.{minOf}
+use Rattle.exponential.specs.Exp.{expOf}
+use Rattle.vector.specs.Vec.{vscale}
+use Rattle.vector.specs.declared.DVec3.{DVec3}
 use Rattle.state.specs.declared.BallState.{BallState}
 use Rattle.aero.specs.Aero.{fromSpinVector}
 use Rattle.aero.specs.declared.AeroParams.{AeroParams}
@@ -28,16 +31,33 @@ flight s next = record { state = s; «next_sample» = next }
 abbrev pub motionOf : BallState → State
 motionOf s = record { pos = s .pos; vel = s .vel }
 
+-- ---- the spin in the air
+
+-- the second settle's factor after a hop step of length h. 02, paper 13: "the old spin times exp(−(0.04×h))"
+unfoldable pub fadeFactor : Float → Float
+fadeFactor h = expOf (neg (dec 4 100 ⊗ h))
+
+-- the spin after a hop step: faded, or held fixed as in ground.rs, which is factor 1 (Fade)
+unfoldable pub spinAfter : Bool → Float → DVec3 → DVec3
+spinAfter fading h w = cond fading (vscale w (fadeFactor h)) w
+
+-- drag and lift of a step. 02, paper 13: "Each step flies with the spin it began with"; where the spin is held, that is the hop's
+unfoldable pub aeroFor : Bool → AeroParams → DVec3 → AeroParams
+aeroFor fading aero w = cond fading (fromSpinVector w) aero
+
+-- ---- a step
+
 -- `let h = self.dt.min(t_end - t); let b = rk4::step(s, t, h, ..)`
 unfoldable pub stepArc : Conditions → AeroParams → BallState → Arc
 stepArc c aero s =
     let a = motionOf s in
     let h = minOf c.physics.dt (c.«t_end» ⊖ s.time) in
-    record { «air_density» = c.«air_density»; a = a; b = flightStep c.ball aero c.«air_density» a s.time h; h = h }
+    let own = aeroFor c.fading aero s.spin in
+    record { «air_density» = c.«air_density»; a = a; b = flightStep c.ball own c.«air_density» a s.time h; h = h }
 
--- the state at the step's end, at `t + h`, with the spin held fixed
-unfoldable pub stepEnd : Arc → BallState → BallState
-stepEnd arc s = record { time = s .time ⊕ arc .h; pos = arc .b .pos; vel = arc .b .vel; spin = s .spin }
+-- the state at the step's end, at `t + h`
+unfoldable pub stepEnd : Conditions → Arc → BallState → BallState
+stepEnd c arc s = record { time = s .time ⊕ arc .h; pos = arc .b .pos; vel = arc .b .vel; spin = spinAfter c.fading (arc .h) s.spin }
 
 -- after a step to b: the arrival, tested; or, with no crossing, the sample point if it is due
 unfoldable pub hopNext : Flight → BallState → Option BallState → M (Pass Flight Way)
@@ -57,7 +77,7 @@ flownTo state end = record { from = state; to = end; phase = Hop; rolling = fals
 unfoldable pub hopStep : Conditions → AeroParams → Flight → M (Pass Flight Way)
 hopStep c aero f = do
   let arc = stepArc c aero f.state
-  s ← makeStep (flownTo f.state (stepEnd arc f.state))
+  s ← makeStep (flownTo f.state (stepEnd c arc f.state))
   b ← test s.to
   end ← clearance b.pos
   arrival ← hopArrival arc f.state.time end f.state.spin

@@ -1,2 +1,3 @@
 pub mod Hop
 pub mod Contracts
+pub mod Fade

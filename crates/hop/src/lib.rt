@@ -6,7 +6,7 @@ ghost use Rattle.course.specs.Sheet.{courseOf};
 ghost use Rattle.course.specs.Index.{Ready};
 ghost use Rattle.tally.specs.Times.{sampleInterval};
 ghost use Rattle.tally.specs.Contracts.{Bounded};
-ghost use Rattle.hop.specs.Hop.{stepArc, stepEnd, flight};
+ghost use Rattle.hop.specs.Hop.{fadeFactor, spinAfter, aeroFor, stepArc, stepEnd, flight};
 ghost use Rattle.hop.specs.Contracts.{HopPasses, Hops};
 use aero::AeroParams;
 use arrival::Arc;
@@ -19,8 +19,12 @@ use tally::Conditions;
 use tally::Push;
 use tally::Tally;
 use tally::Tested;
+use vector::DVec3;
 
 const SAMPLE_INTERVAL: f64 = 0.01;
+
+// How fast spin fades in the air, a second.
+const FADE_RATE: f64 = 0.04;
 
 // Where a hop came to: the ground, or t_end.
 pub enum Way {
@@ -48,6 +52,32 @@ pub enum HopOut {
     Ended(u32, Tally),
 }
 
+// What the second settle multiplies the spin by after a hop step of length h.
+fn fade_factor(h: f64) -> f64
+    ensures { λ r. ⌜ r ≡ fadeFactor h ⌝ }
+{
+    exponential::exp(-(FADE_RATE * h))
+}
+
+fn spin_after(fading: bool, h: f64, spin: DVec3) -> DVec3
+    ensures { λ r. ⌜ r ≡ spinAfter fading h spin ⌝ }
+{
+    if fading {
+        return spin.scale(fade_factor(h));
+    }
+    spin
+}
+
+// Drag and lift of a step: by the spin that it begins with, which is the hop's where the spin is held.
+fn aero_for(fading: bool, aero: AeroParams, spin: DVec3) -> AeroParams
+    ensures { λ r. ⌜ r ≡ aeroFor fading aero spin ⌝ }
+{
+    if fading {
+        return AeroParams::from_spin_vector(spin);
+    }
+    aero
+}
+
 fn step_arc(c: Conditions, aero: AeroParams, s: BallState) -> Arc
     ensures { λ r. ⌜ r ≡ stepArc c aero s ⌝ }
 {
@@ -56,8 +86,10 @@ fn step_arc(c: Conditions, aero: AeroParams, s: BallState) -> Arc
     let a = State { pos, vel };
     let physics = c.physics;
     let ball = c.ball;
+    let spin = s.spin;
     let h = number::min(physics.dt, c.t_end - s.time);
-    let b = flight::step(ball, aero, c.air_density, a, s.time, h);
+    let own = aero_for(c.fading, aero, spin);
+    let b = flight::step(ball, own, c.air_density, a, s.time, h);
     Arc {
         air_density: c.air_density,
         a,
@@ -66,13 +98,14 @@ fn step_arc(c: Conditions, aero: AeroParams, s: BallState) -> Arc
     }
 }
 
-fn step_end(arc: Arc, s: BallState) -> BallState
-    ensures { λ r. ⌜ r ≡ stepEnd arc s ⌝ }
+fn step_end(c: Conditions, arc: Arc, s: BallState) -> BallState
+    ensures { λ r. ⌜ r ≡ stepEnd c arc s ⌝ }
 {
     let b = arc.b;
     let pos = b.pos;
     let vel = b.vel;
-    let spin = s.spin;
+    let w = s.spin;
+    let spin = spin_after(c.fading, arc.h, w);
     BallState {
         time: s.time + arc.h,
         pos,
@@ -98,7 +131,7 @@ fn hop_step(
 {
     let state = f.state;
     let arc = step_arc(c, aero, state);
-    let b = step_end(arc, state);
+    let b = step_end(c, arc, state);
     let t1 = tally::count_step(t, 0);
     let Tested::Good(t2) = tally::test(t1, b) else {
         return HopPass::Ended(22, t1);
@@ -142,7 +175,7 @@ pub fn flight_of(start: BallState) -> Flight
     }
 }
 
-// Flight, from what the loop carries until the ball meets the ground again, or t_end comes first. The spin is that of the start.
+// Flight, from what the loop carries until the ball meets the ground again, or t_end comes first. Where the spin is held it is that of the start.
 pub fn hop(
     sheet: &[u8],
     index: &[u64],

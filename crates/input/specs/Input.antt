@@ -1,7 +1,7 @@
 -- Definitions. The input of the program settle (01, "Lists and the rest of the shop"): 8 bytes a field, little-endian, dt, stop_speed, roll_threshold,
 -- min_hop_height, max_time, max_impacts and step_limit (u64), ball (12), density, landing (time, pos, vel, spin), 240 bytes; then the sheet.
 use Prim.Native.Nat.{ℕ, _+_, _*_}
-use mathlib.Core.Bool.{_&&_, cond}
+use mathlib.Core.Bool.{Bool, true, false, _&&_, cond}
 use mathlib.Core.List.{List}
 use lib.Dec.{leb}
 use lib.ListN.{length, drop}
@@ -59,16 +59,34 @@ ballAt s =
 unfoldable pub landingAt : List ℕ → BallState
 landingAt s = record { time = realAt s 20; pos = vecAt s 21; vel = vecAt s 24; spin = vecAt s 27 }
 
--- all fields: field 6 is step_limit, field 19 the density
-unfoldable pub shotAt : List ℕ → Shot
-shotAt s = record { physics = physicsAt s; «step_limit» = wholeAt s 6; ball = ballAt s; «air_density» = realAt s 19; landing = landingAt s }
+-- all fields: field 6 is step_limit, field 19 the density; whether the spin fades is no field of the input
+unfoldable pub shotBy : Bool → List ℕ → Shot
+shotBy fading s = record {
+  physics = physicsAt s;
+  «step_limit» = wholeAt s 6;
+  ball = ballAt s;
+  «air_density» = realAt s 19;
+  landing = landingAt s;
+  fading = fading;
+}
+
+-- the first settle's
+abbrev pub shotAt : List ℕ → Shot
+shotAt = shotBy false
 
 abbrev pub sheetAt : List ℕ → List ℕ
 sheetAt s = drop 240 s
 
 -- 12 for under 240 or over 34,048 bytes, lists untouched; else the settle
-unfoldable pub settleInputOf : List ℕ → List Float → List Float → Result
-settleInputOf s contacts points =
+unfoldable pub settleInputBy : Bool → List ℕ → List Float → List Float → Result
+settleInputBy fading s contacts points =
     cond (leb 240 (length s) && leb (length s) 34048)
-    (settleOf (sheetAt s) (shotAt s) contacts points)
+    (settleOf (sheetAt s) (shotBy fading s) contacts points)
     (result (refusal 12) contacts points)
+
+-- by the first settle, and by the second (02, paper 13)
+abbrev pub settleInputOf : List ℕ → List Float → List Float → Result
+settleInputOf = settleInputBy false
+
+abbrev pub settleFadingInputOf : List ℕ → List Float → List Float → Result
+settleFadingInputOf = settleInputBy true

@@ -3,7 +3,7 @@ ghost use mathlib.Core.Path.{_≡_};
 ghost use Prim.Native.Nat.{_+_, _*_, _≤_};
 ghost use lib.ListN.{length};
 ghost use Rattle.ground.specs.Settle.{result};
-ghost use Rattle.input.specs.Input.{wholeAt, realAt, vecAt, physicsAt, ballAt, landingAt, shotAt, settleInputOf};
+ghost use Rattle.input.specs.Input.{wholeAt, realAt, vecAt, physicsAt, ballAt, landingAt, shotBy, settleInputBy};
 use aero::BallModel;
 use ground::Settled;
 use shot::GroundPhysics;
@@ -89,9 +89,9 @@ fn landing_at(s: &[u8]) -> BallState
 }
 
 // All fields.
-pub fn shot_at(s: &[u8]) -> Shot
+pub fn shot_at(s: &[u8], fading: bool) -> Shot
     requires { ⌜ 240 ≤ length (now s) ⌝ }
-    ensures { λ r. ⌜ r ≡ shotAt (now (s .entry)) ⌝ }
+    ensures { λ r. ⌜ r ≡ shotBy fading (now (s .entry)) ⌝ }
 {
     let physics = physics_at(s);
     let step_limit = whole(s, 6);
@@ -104,12 +104,18 @@ pub fn shot_at(s: &[u8]) -> Shot
         ball,
         air_density,
         landing,
+        fading,
     }
 }
 
-// Settles the landing that an input holds. 12 for under 240 or over 34,048 bytes; the other answers are settle's.
-pub fn settle_input(input: &[u8], contacts: &mut [f64], points: &mut [f64]) -> Settled
-    ensures { λ r. ⌜ result r (now (contacts .exit)) (now (points .exit)) ≡ settleInputOf (now (input .entry)) (now (contacts .entry)) (now (points .entry)) ⌝ }
+// Settles the landing that an input holds, with spin that fades in the air or is held. 12 for under 240 or over 34,048 bytes; the other answers are settle's.
+pub fn settle_input(
+    input: &[u8],
+    fading: bool,
+    contacts: &mut [f64],
+    points: &mut [f64],
+) -> Settled
+    ensures { λ r. ⌜ result r (now (contacts .exit)) (now (points .exit)) ≡ settleInputBy fading (now (input .entry)) (now (contacts .entry)) (now (points .entry)) ⌝ }
 {
     if input.len() < 240 {
         return ground::refused(12);
@@ -117,6 +123,6 @@ pub fn settle_input(input: &[u8], contacts: &mut [f64], points: &mut [f64]) -> S
     if 34048 < input.len() {
         return ground::refused(12);
     }
-    let shot = shot_at(input);
+    let shot = shot_at(input, fading);
     ground::settle(&input[240..], shot, contacts, points)
 }

@@ -47,6 +47,6 @@ pub fn write_line(input: &[u8], out: &mut [u8; 128]) -> usize
 {
     let mut contacts = [0.0; 64 * tally::CONTACT_WIDTH];
     let mut points = [0.0; 640 * tally::POINT_WIDTH];
-    let s = input::settle_input(input, &mut contacts, &mut points);
+    let s = input::settle_input(input, false, &mut contacts, &mut points);
     put_settled(out, s)
 }

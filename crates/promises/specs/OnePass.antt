@@ -149,10 +149,10 @@ module _ (c : Conditions) (paced : Paced c) where
     hop-leads : Gives Leads (hopStep c aero f)
     unfolding hopStep stepEnd
     hop-leads =
-        given-made Leads _ _ (given-test Leads (stepEnd arc (f .state)) _ (λ ok. gives-bind Leads (clearance _) _ (λ end.
+        given-made Leads _ _ (given-test Leads (stepEnd c arc (f .state)) _ (λ ok. gives-bind Leads (clearance _) _ (λ end.
         gives-then (IfSome (ArrivesIn t (arc .h))) Leads (hopArrival arc t end (f .state .spin)) _
-        (next-leads (stepEnd arc (f .state))
-        (later (f .state) timed due (stepEnd arc (f .state))
+        (next-leads (stepEnd c arc (f .state))
+        (later (f .state) timed due (stepEnd c arc (f .state))
         (record { by = arc .h; forth = not-below (arc .h) (lt-le (dec 0 1) (arc .h) (hop-step .0 .above-0)); is = refl }) ok)) (arrives end))))
 
     pub hop-pass : HopBracket c aero f

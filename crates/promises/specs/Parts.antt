@@ -25,7 +25,7 @@ use Rattle.tally.specs.declared.Conditions.{Conditions}
 use Rattle.arrival.specs.Arrival.{clearance, clearanceAt, subStep, crossingFrom, firstCrossing, endValue, crossingTime, placed, hopArrival}
 use Rattle.arrival.specs.FirstCrossing.{IfSome}
 use Rattle.arrival.specs.declared.Arc.{Arc}
-use Rattle.hop.specs.Hop.{stepArc, stepEnd, hopNext, hopStep, hopFrom, hop}
+use Rattle.hop.specs.Hop.{spinAfter, aeroFor, stepArc, stepEnd, hopNext, hopStep, hopFrom, hop}
 use Rattle.hop.specs.declared.Flight.{Flight}
 use Rattle.hop.specs.declared.Way.{Way}
 use Rattle.hop.specs.declared.Way.the-variants.{Arrived, Late}
@@ -50,6 +50,18 @@ use Rattle.promises.specs.Terms.{Answer, SampleOf, Ok, under, Placed, Gi
 use Rattle.promises.specs.Terms.{impact, hop-step, arrival, drop as dropping, ground-step}
 use Rattle.promises.specs.Keeps.{Setting, Keeps, At, Within, at-ok, at-frame, t-given}
 use Rattle.promises.specs.Keeps.{a-look, a-evaluation, a-test, a-point-own, a-contact, a-mark, a-truncate, a-when, a-step, a-left, a-limit}
+
+-- ---- the drag and lift of a hop's steps, from step to step
+own-self : (b : Bool) (w : DVec3) → aeroFor b (fromSpinVector w) w ≡ fromSpinVector w
+unfolding aeroFor
+own-self true w = refl
+own-self false w = refl
+
+own-kept : (b : Bool) (aero : AeroParams) (h : Float) (w : DVec3) → aeroFor b aero w ≡ fromSpinVector w
+    → aeroFor b aero (spinAfter b h w) ≡ fromSpinVector (spinAfter b h w)
+unfolding aeroFor spinAfter
+own-kept true aero h w e = refl
+own-kept false aero h w e = e
 
 -- ---- where a hop meets the ground: looks alone. What every look keeps, this keeps
 
@@ -164,6 +176,18 @@ module _ (e : Setting) where
   abbrev endOn : BallState → Float
   endOn b = b .pos .y ⊖ under (e .course) b .height
 
+  -- a hop that began with this spin flies a step from s by the spin of s: held, that is the same; fading, it is taken anew
+  abbrev Own : DVec3 → BallState → Type 0
+  Own spin s = aeroFor (c .fading) (fromSpinVector spin) (s .spin) ≡ fromSpinVector (s .spin)
+
+  own-arc : (spin : DVec3) (s : BallState) → Own spin s → stepArc c (fromSpinVector spin) s ≡ arcOn s
+  unfolding stepArc
+  own-arc spin s h = rw (h, own-self (c .fading) (s .spin))
+
+  own-next : (spin : DVec3) (s : BallState) → Own spin s → Own spin (stepEnd c (arcOn s) s)
+  unfolding stepEnd
+  own-next spin s h = own-kept (c .fading) (fromSpinVector spin) _ (s .spin) h
+
   -- the sample under s, and the state after its impact there
   abbrev StruckBy : BallState → Struck → Type 0
   StruckBy s hit = hit ≡ struckAt (e .course) c s
@@ -176,28 +200,28 @@ module _ (e : Setting) where
     abbrev pub Only : BallState → Past → Type 0
     Only g = At e (λ _. G) g
 
-    -- with n steps left: the flight's state is the last that passed, with the spin that the hop began with
+    -- with n steps left: the flight's state is the last that passed, and a hop that began with this spin flies its next step by the state's own
     abbrev Flying : DVec3 → ℕ → Flight → Past → Type 0
-    Flying spin n f w = At e (Within e n G) (f .state) w × (f .state .spin ≡ spin)
+    Flying spin n f w = At e (Within e n G) (f .state) w × Own spin (f .state)
 
     abbrev Flew : Way → Past → Type 0
     Flew way = Only (stateOf way)
 
-    f-hopNext : (n : ℕ) (f : Flight) (b : BallState) → Ok (f .state) → b ≡ stepEnd (arcOn (f .state)) (f .state)
+    f-hopNext : (spin : DVec3) (n : ℕ) (f : Flight) (b : BallState) → Own spin (f .state) → Ok (f .state) → b ≡ stepEnd c (arcOn (f .state)) (f .state)
         → (a : Option BallState) → GivenBy (e .course) (hopArrival (arcOn (f .state)) (f .state .time) (endOn b) (f .state .spin)) a
-        → Keeps e (At e (Within e n G) b) (hopNext f b a) (OnWith (Flying (f .state .spin) n) Flew)
-    unfolding hopNext stepEnd
-    f-hopNext n f b ok d (some s) l = t-then (a-test s (arrival (f .state) ok d l)) (λ x _. t-pure (λ w a. at-frame (λ j k h. h .1) a))
-    f-hopNext n f b ok d none l = t-bind (a-when _ (a-point-own _)) (λ x. t-pure (λ w a. (a, ap (λ (s : BallState). s .spin) d)))
+        → Keeps e (At e (Within e n G) b) (hopNext f b a) (OnWith (Flying spin n) Flew)
+    unfolding hopNext
+    f-hopNext spin n f b own ok d (some s) l = t-then (a-test s (arrival (f .state) ok d l)) (λ x _. t-pure (λ w a. at-frame (λ j k h. h .1) a))
+    f-hopNext spin n f b own ok d none l = t-bind (a-when _ (a-point-own _)) (λ x. t-pure (λ w a. (a, rw d (own-next spin (f .state) own))))
 
     f-hopStep : (spin : DVec3) (n : ℕ) (f : Flight) → Keeps e (Flying spin (suc n) f) (hopStep c (fromSpinVector spin) f) (OnWith (Flying spin n) Flew)
     unfolding hopStep
-    f-hopStep spin n f = t-fact (λ h. rw (← h) (t-know (λ w. at-ok) (λ ok. t-made _ _ (a-step n _) (t-then (a-test _ (hop-step refl)) (λ b d.
-        t-then (l-clearance a-look a-evaluation _) (λ end v. t-then (t-given (l-hopArrival a-look a-evaluation _ _ _ _)) (λ a l. f-hopNext n f b ok d a (rw v at l))))))))
+    f-hopStep spin n f = t-fact (λ h. rw (own-arc spin (f .state) h) (t-know (λ w. at-ok) (λ ok. t-made _ _ (a-step n _) (t-then (a-test _ (hop-step refl)) (λ b d.
+        t-then (l-clearance a-look a-evaluation _) (λ end v. t-then (t-given (l-hopArrival a-look a-evaluation _ _ _ _)) (λ a l. f-hopNext spin n f b h ok d a (rw v at l))))))))
 
     f-hop : (start : BallState) → Keeps e (Only start) (hop c start) Flew
     unfolding hop hopFrom
-    f-hop start = t-bind a-left (λ n. t-before (λ w a. (a, refl)) (t-loop _ _ _ (Flying (start .spin)) Flew
+    f-hop start = t-bind a-left (λ n. t-before (λ w a. (a, own-self (c .fading) (start .spin))) (t-loop _ _ _ (Flying (start .spin)) Flew
         (λ n f. t-pure (λ w a. at-frame (λ j k h. h .1) (a .0))) (λ f w a. a-limit w (a .0)) (f-hopStep (start .spin)) n _))
 
     -- ---- the ground

@@ -10,7 +10,7 @@ use lib.Ieee.{Float}
 use lib.ListN.{length}
 use borrow.Author.Tests.{leb-true, leb-false, le-leb}
 use Rattle.ground.specs.Settle.{Result, result, refusal, settleOf}
-use Rattle.input.specs.Input.{shotAt, sheetAt, settleInputOf}
+use Rattle.input.specs.Input.{shotAt, sheetAt, settleInputBy, settleInputOf}
 use Rattle.promises.specs.Promises.{answers}
 
 -- 01, 12: "under 240 or over 34,048 bytes"
@@ -20,7 +20,7 @@ Sized s = (240 ≤ length s) × (length s ≤ 34048)
 module _ (s : List ℕ) (cs ps : List Float) where
   -- an input of another size is answered by 12, with zero counts, state and rectangle and its lists untouched
   pub not-sized : (Sized s → ⊥) → settleInputOf s cs ps ≡ result (refusal 12) cs ps
-  unfolding settleInputOf
+  unfolding settleInputBy
   not-sized h = go (leb 240 (length s)) (leb (length s) 34048) refl refl
     where
       go : (a b : Bool) → leb 240 (length s) ≡ a → leb (length s) 34048 ≡ b → settleInputOf s cs ps ≡ result (refusal 12) cs ps
@@ -30,7 +30,7 @@ module _ (s : List ℕ) (cs ps : List Float) where
 
   -- one of this size is settled
   pub sized : Sized s → settleInputOf s cs ps ≡ settleOf (sheetAt s) (shotAt s) cs ps
-  unfolding settleInputOf
+  unfolding settleInputBy
   sized h = rw (le-leb 240 (length s) (h .0), le-leb (length s) 34048 (h .1))
 
   -- and 12 is not among a settle's answers: so 12 comes exactly with an input of another size

@@ -241,6 +241,7 @@ allowing n s = record {
   ball = s .ball;
   «air_density» = s .«air_density»;
   landing = s .landing;
+  fading = s .fading;
 }
 
 -- 01: "max_impacts 0 acts as 1": of every call, refused ones too

@@ -100,9 +100,9 @@ module _ (o : Oracle) where
     -- ground step"
     pub data Follows (g s : BallState) : Type 0 where
       impact : s ≡ impactOf g (under g) (c .ball) → Follows g s
-      hop-step : s ≡ stepEnd (arcFrom g) g → Follows g s
+      hop-step : s ≡ stepEnd c (arcFrom g) g → Follows g s
       -- the arrival in the hop step from f, which ended at g
-      arrival : (f : BallState) → Ok f → g ≡ stepEnd (arcFrom f) f
+      arrival : (f : BallState) → Ok f → g ≡ stepEnd c (arcFrom f) f
           → GivenBy (hopArrival (arcFrom f) (f .time) (g .pos .y ⊖ under g .height) (f .spin)) (some s) → Follows g s
       -- the drop after the impact of f
       drop : (f : BallState) → Ok f → Grounded (struckAt f .out) g → s ≡ dropped c (struckAt f) → Follows g s

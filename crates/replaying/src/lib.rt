@@ -153,7 +153,7 @@ fn gives_same(entry: &[u8], contacts: &mut [f64], points: &mut [f64]) -> bool
     requires { ⌜ 200 ≤ length (now entry) ⌝ }
     ensures { λ r. ⌜ r ≡ sameOf (now (entry .entry)) (settleInputOf (drop 200 (now (entry .entry))) (now (contacts .entry)) (now (points .entry))) ⌝ }
 {
-    let s = input::settle_input(&entry[200..], contacts, points);
+    let s = input::settle_input(&entry[200..], false, contacts, points);
     same_counts(entry, s) & same_end(entry, s) & same_lists(entry, contacts, points)
 }
 

@@ -36,13 +36,15 @@ impl GroundPhysics {
     }
 }
 
-// A landing and all that its settle depends on beside the course: the tunables, the most steps it may make, the ball and the air.
+// A landing and all that its settle depends on beside the course: the tunables, the most steps it may make, the ball, the air, and whether its spin fades
+// in the air (the second settle) or is held (the first).
 pub struct Shot {
     pub physics: GroundPhysics,
     pub step_limit: u64,
     pub ball: BallModel,
     pub air_density: f64,
     pub landing: BallState,
+    pub fading: bool,
 }
 
 // ---- tests

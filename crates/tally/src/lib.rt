@@ -35,6 +35,7 @@ pub struct Conditions {
     pub ball: BallModel,
     pub air_density: f64,
     pub t_end: f64,
+    pub fading: bool,
 }
 
 // ---- times

@@ -9,6 +9,7 @@ use Rattle.state.specs.declared.BallState.{BallState}
 use Rattle.course.specs.Sheet.{courseOf}
 use Rattle.tally.specs.Language.{M, Pass}
 use Rattle.tally.specs.Contracts.{place, Reached}
+use Rattle.tally.specs.declared.Conditions.{Conditions}
 use Rattle.tally.specs.declared.Tally.{Tally}
 use Rattle.tally.proofs.Reached.{ended, state-good, state-bad, no-work-tested, due-pushed, due-full}
 use Rattle.arrival.specs.declared.Arc.{Arc}
@@ -43,11 +44,11 @@ end c = c .before .before .before
 -- ---- what is known there
 
 -- the pass has come to a tally t, and `rest` is left of it, whatever the contacts are; no point is pushed
-abbrev Came : tie.After-test → (Flight → Arc → M (Pass Flight Way)) → Tally → Type 0
+abbrev Came : tie.After-test → (Conditions → Flight → Arc → M (Pass Flight Way)) → Tally → Type 0
 Came c rest t =
     let a = start (step c) .args in
     (lc : List Float) → Reached (courseOf (a .sheet .now)) (hopStep (a .c) (a .aero) (a .f)) (place (a .t) lc (a .points .now)) 1
-    (rest (a .f) (step c .step-arc .result)) (place t lc (a .points .now))
+    (rest (a .c) (a .f) (step c .step-arc .result)) (place t lc (a .points .now))
 
 abbrev ball : tie.After-test → BallState
 ball c = c .before .before .step-end .result
@@ -66,17 +67,17 @@ none-yet c =
 room : (c : tie.After-end) → let t = test (good (clear c)) in c .end .given .0 .1 .0 .evaluations + 200 ≤ start (step t) .args .t .evaluations + 200 * 1
 room c = omega (arith, none-yet c)
 
-came-test : (c : tie.After-t2) → let t = test c in Came t (λ f arc. toClear f arc (ball t)) (c .t2 .given .0 .0)
+came-test : (c : tie.After-t2) → let t = test c in Came t (λ e f arc. toClear e f arc (ball t)) (c .t2 .given .0 .0)
 came-test c lc = let t = test c in state-good _ (came-step t lc) (t .before .before .step-end .ensures) (t .test .ensures) (c .t2 .given .1)
 
-came-clear : (c : tie.After-end) → let t = test (good (clear c)) in Came t (λ f arc. toArrive f arc (ball t) (c .end .given .0 .0))
+came-clear : (c : tie.After-end) → let t = test (good (clear c)) in Came t (λ e f arc. toArrive e f arc (ball t) (c .end .given .0 .0))
     (c .end .given .0 .1 .0)
 came-clear c lc = cleared _ _ (came-test (good (clear c)) lc) (clear c .clear .ensures) (c .end .given .1)
 
 -- no crossing, and whether a point is due
 came-none : (c : tie.After-push-due) → let m = c .before .before .before .before in
     Came (test (good (clear (end (m .before .before)))))
-    (λ f arc. toDue f (ball (test (good (clear (end (m .before .before)))))) (c .before .before .is-due .result)) (m .met3 .given .0 .0)
+    (λ e f arc. toDue f (ball (test (good (clear (end (m .before .before)))))) (c .before .before .is-due .result)) (m .met3 .given .0 .0)
 came-none c lc =
     let m = c .before .before .before .before in
     let a = m .before .before in

@@ -5,7 +5,7 @@ use Rattle.hop.proofs.step_arc.Tie as tie
 
 returns : tie.Need-returns
 unfolding stepArc
-returns c = rw (c .step .ensures, c .before .min .ensures)
+returns c = rw (c .step .ensures, c .before .aero-for .ensures, c .before .before .min .ensures)
 
 pub step-arc-spec : {M : Type 1} → statement M
-step-arc-spec = tie.close (tie.spec (λ c κs. tt) (λ c κs. tt) returns)
+step-arc-spec = tie.close (tie.spec (λ c κs. tt) (λ c κs. tt) (λ c κs. tt) returns)

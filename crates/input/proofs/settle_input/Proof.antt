@@ -2,6 +2,7 @@
 use Prim.Native.Nat.{ℕ, _-_, _≤_, _<_}
 use native.Mathlib.Omega.{arith}
 use mathlib.Core.Path.{_≡_}
+use mathlib.Core.Bool.{Bool}
 use mathlib.Core.List.{List}
 use lib.Ieee.{Float}
 use lib.ListN.{length, drop, take, length-drop}
@@ -10,44 +11,44 @@ use borrow.Author.Needs.{needs}
 use borrow.Author.Tests.{le-leb, lt-leb}
 use Rattle.shot.specs.declared.Shot.{Shot}
 use Rattle.ground.specs.Settle.{Result, result, refusal, settleOf}
-use Rattle.input.specs.Input.{shotAt, settleInputOf}
+use Rattle.input.specs.Input.{shotBy, settleInputBy}
 use Rattle.input.proofs.settle_input.Statement.{statement}
 use Rattle.input.proofs.settle_input.Tie as tie
 
-module _ (s : List ℕ) (lc lp : List Float) where
-  short : length s < 240 → settleInputOf s lc lp ≡ result (refusal 12) lc lp
-  unfolding settleInputOf
+module _ (f : Bool) (s : List ℕ) (lc lp : List Float) where
+  short : length s < 240 → settleInputBy f s lc lp ≡ result (refusal 12) lc lp
+  unfolding settleInputBy
   short h = rw (lt-leb 240 (length s) h)
 
-  long : 240 ≤ length s → 34048 < length s → settleInputOf s lc lp ≡ result (refusal 12) lc lp
-  unfolding settleInputOf
+  long : 240 ≤ length s → 34048 < length s → settleInputBy f s lc lp ≡ result (refusal 12) lc lp
+  unfolding settleInputBy
   long h k = rw (le-leb 240 (length s) h, lt-leb (length s) 34048 k)
 
-  fits : 240 ≤ length s → length s ≤ 34048 → settleInputOf s lc lp ≡ settleOf (drop 240 s) (shotAt s) lc lp
-  unfolding settleInputOf
+  fits : 240 ≤ length s → length s ≤ 34048 → settleInputBy f s lc lp ≡ settleOf (drop 240 s) (shotBy f s) lc lp
+  unfolding settleInputBy
   fits h k = rw (le-leb 240 (length s) h, le-leb (length s) 34048 k)
 
 part : (s : List ℕ) → take (length s - 240) (drop 240 s) ≡ drop 240 s
 part s = take-all (length s - 240) (drop 240 s) (omega (arith, length-drop 240 s))
 
-module _ (s : List ℕ) (lc lp : List Float) {w : Result} {t : List ℕ} {shot : Shot} where
-  settles : w ≡ settleOf t shot lc lp → t ≡ drop 240 s → shot ≡ shotAt s → 240 ≤ length s → length s ≤ 34048 → w ≡ settleInputOf s lc lp
-  settles x y z h k = rw (x, y, z, fits s lc lp h k)
+module _ (f : Bool) (s : List ℕ) (lc lp : List Float) {w : Result} {t : List ℕ} {shot : Shot} where
+  settles : w ≡ settleOf t shot lc lp → t ≡ drop 240 s → shot ≡ shotBy f s → 240 ≤ length s → length s ≤ 34048 → w ≡ settleInputBy f s lc lp
+  settles x y z h k = rw (x, y, z, fits f s lc lp h k)
 
 returns : tie.Need-returns
 returns c =
     let a = c .before .before .before .before .before .args in
-    rw (short (a .input .now) (a .contacts .now) (a .points .now) (c .before .if1 .taken), ← c .refused .ensures)
+    rw (short (a .fading) (a .input .now) (a .contacts .now) (a .points .now) (c .before .if1 .taken), ← c .refused .ensures)
 
 returns-2 : tie.Need-returns-2
 returns-2 c =
     let a = c .before .before .before .before .before .before .args in
-    rw (long (a .input .now) (a .contacts .now) (a .points .now) (c .before .before .if1 .left) (c .before .if2 .taken), ← c .refused2 .ensures)
+    rw (long (a .fading) (a .input .now) (a .contacts .now) (a .points .now) (c .before .before .if1 .left) (c .before .if2 .taken), ← c .refused2 .ensures)
 
 returns-3 : tie.Need-returns-3
 returns-3 c =
     let a = c .before .before .before .before .before .before .before .before .before .before .before .before .before .before .args in
-    settles (a .input .now) (a .contacts .now) (a .points .now) (c .before .before .before .before .settle .ensures) (part (a .input .now)) (c .before .before .before .before .before .before .before .before .shot-at .ensures) (c .before .before .before .before .before .before .before .before .before .before .if1 .left) (c .before .before .before .before .before .before .before .before .before .if2 .left)
+    settles (a .fading) (a .input .now) (a .contacts .now) (a .points .now) (c .before .before .before .before .settle .ensures) (part (a .input .now)) (c .before .before .before .before .before .before .before .before .shot-at .ensures) (c .before .before .before .before .before .before .before .before .before .before .if1 .left) (c .before .before .before .before .before .before .before .before .before .if2 .left)
 
 pub settle-input-spec : {M : Type 1} → statement M
 settle-input-spec =

@@ -1,11 +1,11 @@
 -- `shot_at` reads all fields.
 use borrow.Author.Needs.{needs}
-use Rattle.input.specs.Input.{shotAt}
+use Rattle.input.specs.Input.{shotBy}
 use Rattle.input.proofs.shot_at.Statement.{statement}
 use Rattle.input.proofs.shot_at.Tie as tie
 
 returns : tie.Need-returns
-unfolding shotAt
+unfolding shotBy
 returns c = cc
 
 pub shot-at-spec : {M : Type 1} → statement M

@@ -1,0 +1,22 @@
+-- `dimple_settle_fading` settles the input, with spin that fades, and writes the result.
+use mathlib.Core.Bool.{true}
+use borrow.Author.Needs.{needs}
+use Rattle.capi.proofs.Settling.{settles}
+use Rattle.capi.proofs.dimple_settle_fading.Statement.{statement}
+use Rattle.capi.proofs.dimple_settle_fading.Tie as tie
+
+returns : tie.Need-returns
+returns c =
+    let a = c .before .before .before .before .before .before .before .before .before .before .before .before .before .before .before .args in
+    settles true (a .input .now) (a .contacts .now) (a .points .now) (a .result .now) (c .before .before .before .before .before .before .before .before .settle-input .ensures) (c .before .before .write-result .ensures)
+
+pub dimple-settle-fading-spec : {M : Type 1} → statement M
+dimple-settle-fading-spec =
+    tie.close
+    (tie.spec
+    (λ c κs. search needs)
+    (λ c κs. search needs)
+    (λ c. search needs)
+    (λ c. search needs)
+    (λ c. search needs)
+    returns)
