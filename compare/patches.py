@@ -9,8 +9,9 @@ HIT = "crate::added::Hit"
 
 
 def push(kind, what, place):
-    """A push of settle or hop, with the limit of the lent list."""
-    return f"{RUN}.push_{kind}(&mut {kind}s, {what}, {HIT}::{place});"
+    """A push of settle or hop, with the limit of the lent list; of a point, with its look first (02, paper 12)."""
+    terrain = "&self.terrain, " if kind == "point" else ""
+    return f"{RUN}.push_{kind}({terrain}&mut {kind}s, {what}, {HIT}::{place});"
 
 
 # std's methods on f64 -> document 01's stand-ins (src/stand.rs)
@@ -62,7 +63,7 @@ ADDITIONS = {
          "            let end = self.clearance(b.pos);\n"
          f"            {RUN}.at({HIT}::look_22_arc0);\n", 1),
         ("                points.push(GroundPoint::new(&sample, Phase::Hop));\n",
-         f"                {RUN}.push_point(points, GroundPoint::new(&sample, Phase::Hop), {HIT}::full_21_hop);\n", 1),
+         f"                {RUN}.push_point(&self.terrain, points, GroundPoint::new(&sample, Phase::Hop), {HIT}::full_21_hop);\n", 1),
         # hop_arrival: the looks' places, the arrival's test
         ("        let (lo, (hi, f_hi)) = first_crossing(clearance, h, clearance(0.0), end)?;\n",
          "        let f_start = clearance(0.0);\n"

@@ -14,7 +14,7 @@ extern "C" {
 /* Settles a landing. input: 240 bytes, then the sheet, as the program settle reads them: dt, stop_speed, roll_threshold, min_hop_height,
  * max_time, max_impacts (0 to 64) and step_limit (u64), the ball (12), density, the landing (time, pos, vel, spin), 8 bytes a field, little-endian.
  * contacts: 20 doubles a record (time, pos, normal, surface number, vel_in, vel_out, spin_in, spin_out).
- * points: 11 doubles a record (time, pos, vel, spin, phase: 0 hop, 1 slide, 2 roll).
+ * points: 12 doubles a record (time, pos, vel, spin, phase: 0 hop, 1 slide, 2 roll, clearance: y less the course height at its x and z).
  * result, where it has room for 20, gets: answer; termination (0 none, 1 rest, 2 time, 3 impacts); contacts, points, steps; the final state
  * (time, pos, vel, spin); the rectangle (least x, greatest x, least z, greatest z); how many evaluations the root searches of its hops and slides made.
  * A longer result keeps its tail, a shorter one is untouched.

@@ -82,7 +82,7 @@ Ball = namedtuple("Ball", "mass_kg diameter_m inertia_factor cd_sub cd_super cd_
 Landing = namedtuple("Landing", "time pos vel spin", defaults=(0.0, (0.0, 0.0, 0.0), (0.0, 0.0, 0.0), (0.0, 0.0, 0.0)))
 State = namedtuple("State", "time pos vel spin")
 Contact = namedtuple("Contact", "time pos normal surface vel_in vel_out spin_in spin_out")
-Point = namedtuple("Point", "time pos vel spin phase")
+Point = namedtuple("Point", "time pos vel spin phase clearance")
 Rectangle = namedtuple("Rectangle", "x_lo x_hi z_lo z_hi")
 # evaluations: those of all root searches of the run, in hops and in slides
 Run = namedtuple("Run", "answer termination steps rest rectangle contacts points evaluations")
@@ -186,7 +186,7 @@ def settle_input(course, landing, physics=Physics(), ball=TOUR, air_density=1.22
 def settle(course, landing, physics=Physics(), ball=TOUR, air_density=1.225, step_limit=1_000_000, contacts=256, points=16384, fading=False):
     """The run of a landing to its end, as a `Run`. With fading=True the spin fades in the air, by exp(-0.04 h) in a hop step of h seconds."""
     data = settle_input(course, landing, physics, ball, air_density, step_limit)
-    lc, lp, result = _doubles(20 * contacts), _doubles(11 * points), _doubles(20)
+    lc, lp, result = _doubles(20 * contacts), _doubles(12 * points), _doubles(20)
     answer = _call("dimple_settle_fading" if fading else "dimple_settle", data, len(data), lc, len(lc), lp, len(lp), result, len(result))
     return _run(answer, lc, lp, result)
 
@@ -197,7 +197,7 @@ def _run(answer, lc, lp, result):
     r = list(result)
     nc, np = int(r[2]), int(r[3])
     run = Run(answer, TERMINATIONS[int(r[1])], int(r[4]), _state(r[5:15]), Rectangle(*r[15:19]),
-              [_contact(lc[20 * i:20 * i + 20]) for i in range(nc)], [_point(lp[11 * i:11 * i + 11]) for i in range(np)], int(r[19]))
+              [_contact(lc[20 * i:20 * i + 20]) for i in range(nc)], [_point(lp[12 * i:12 * i + 12]) for i in range(np)], int(r[19]))
     if answer:
         raise Stopped(answer, run)
     return run
@@ -207,7 +207,7 @@ def card(course, landing, physics=Physics(), ball=TOUR, air_density=1.225, step_
     """The run of a landing to its end, printed: a heading, then a line of 60 bytes for each contact, with its number, time in milliseconds and x, y, z
     in centimetres."""
     data = settle_input(course, landing, physics, ball, air_density, step_limit)
-    lc, lp, result = _doubles(20 * contacts), _doubles(11 * points), _doubles(20)
+    lc, lp, result = _doubles(20 * contacts), _doubles(12 * points), _doubles(20)
     page = ctypes.create_string_buffer(60 * (1 + contacts))
     answer = _call("dimple_card", data, len(data), lc, len(lc), lp, len(lp), result, len(result), page, len(page))
     run = _run(answer, lc, lp, result)
@@ -221,7 +221,7 @@ def aim(course, spot, distance, landing=Landing(), forward=32, downward=32, phys
     takes seconds: with progress=True a line on standard error says how long it has been at it."""
     data = settle_input(course, landing, physics, ball, air_density, step_limit)
     sides = _whole(forward, 64, "forward"), _whole(downward, 64, "downward")
-    lc, lp, result, found = _doubles(20 * contacts), _doubles(11 * points), _doubles(20), _doubles(10)
+    lc, lp, result, found = _doubles(20 * contacts), _doubles(12 * points), _doubles(20), _doubles(10)
     with _progress(f"aiming, at most {forward * downward} landings") if progress else contextlib.nullcontext():
         answer = _call("dimple_aim", data, len(data), lc, len(lc), lp, len(lp), *_doubles(3, *spot, distance), *sides, result, len(result), found, 10)
     if answer:
@@ -279,7 +279,7 @@ def _contact_fields(c):
 
 
 def _point(d):
-    return Point(*_state(d), PHASES[int(d[10])])
+    return Point(*_state(d), PHASES[int(d[10])], d[11])
 
 
 def step(course, state, physics=Physics(), ball=TOUR):

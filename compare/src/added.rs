@@ -2,7 +2,7 @@
 //! the rectangle, and a log of the looks. build.py puts the calls into dimple's own functions.
 //! A number from 20 to 23 leaves the run by unwinding (`Run::stop`), caught in oracle.rs.
 
-use crate::ground::{BallState, Contact, GroundPoint};
+use crate::ground::{BallState, Contact, GroundPoint, Terrain};
 use std::cell::{Cell, RefCell};
 
 /// Places of dimple's code whose visits are counted. `HIT_NAMES` has their names.
@@ -29,6 +29,7 @@ hits! {
     full_21_out, full_21_impacts, full_21_hop, full_21_late, full_21_ground, full_21_ground_time, full_21_rest,
     state_22_impact, state_22_hop_step, state_22_arrival, state_22_drop, state_22_ground, state_22_step, state_22_impact_call,
     look_22_train, look_22_end, look_22_arc0, look_22_substep, look_22_hi_h, look_22_end_height, look_22_root, look_22_arrival, look_22_ground,
+    look_22_point,
     limit_23_hop, limit_23_ground,
 }
 
@@ -95,7 +96,8 @@ pub struct Run {
     pub contact_room: usize,
     pub point_room: usize,
     pub contacts: RefCell<Vec<Contact>>,
-    pub points: RefCell<Vec<GroundPoint>>,
+    /// each with its clearance (02, paper 12)
+    pub points: RefCell<Vec<(GroundPoint, f64)>>,
     pub place: Cell<Hit>,
     pub looks: Option<RefCell<Vec<(f64, f64)>>>,
     /// Whether 22 is tested; `compare faults` turns it off to see what the Rust alone does.
@@ -190,12 +192,15 @@ impl Run {
         self.contacts.borrow_mut().push(record);
     }
 
-    pub fn push_point(&self, list: &mut Vec<GroundPoint>, record: GroundPoint, place: Hit) {
+    /// 02, paper 12: the look at the point's spot, then the push. The Rust's own list keeps its own record.
+    pub fn push_point(&self, terrain: &impl Terrain, list: &mut Vec<GroundPoint>, record: GroundPoint, place: Hit) {
+        self.at(Hit::look_22_point);
+        let clearance = record.pos.y - terrain.sample(record.pos.x, record.pos.z).height;
         if list.len() == self.point_room {
             self.stop(21, place);
         }
         list.push(record);
-        self.points.borrow_mut().push(record);
+        self.points.borrow_mut().push((record, clearance));
     }
 
     pub fn truncate(&self, list: &mut Vec<GroundPoint>, mark: usize) {

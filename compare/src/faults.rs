@@ -19,7 +19,7 @@ fn alone(s: &Shot, steps: u64) -> Outcome {
 
 fn show(what: &str, s: &Shot) {
     let a = alone(s, 20_000);
-    let b = reference::settle(&s.bytes(), 1000 * 20, 30_000 * 11, true);
+    let b = reference::settle(&s.bytes(), 1000 * 20, 30_000 * 12, true);
     let end = match (a.answer, a.termination) {
         (23, _) => "does not end in 20,000 steps",
         (_, 1) => "rest",

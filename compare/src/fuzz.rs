@@ -32,7 +32,7 @@ fn main() {
             field.copy_from_slice(&MOST.to_le_bytes());
         }
     }
-    let lent = || (vec![1.0; 64 * 20], vec![1.0; 640 * 11], vec![1.0; 20]);
+    let lent = || (vec![1.0; 64 * 20], vec![1.0; 640 * 12], vec![1.0; 20]);
     let (mut c, mut p, mut r) = lent();
     let (mut d, mut q, mut s) = lent();
     let a = unsafe {

@@ -70,7 +70,7 @@ fn printed(o: &Outcome) -> String {
     format!("answer {} {word} contacts {} points {} steps {}", o.answer, o.contacts.len(), o.points.len(), o.steps)
 }
 
-/// Whether the lists are no longer than the program's own, 1280 and 7040 doubles. A case of `number_cases` is kept without this
+/// Whether the lists are no longer than the program's own, 1280 and 7680 doubles. A case of `number_cases` is kept without this
 /// test, and lends up to 7041.
 fn fits(c: &Case) -> bool {
     c.contacts <= 64 * CONTACT && c.points <= 640 * POINT

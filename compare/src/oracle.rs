@@ -12,7 +12,7 @@ use crate::ground::{
 use std::panic::{AssertUnwindSafe, catch_unwind};
 
 pub const CONTACT: usize = 20;
-pub const POINT: usize = 11;
+pub const POINT: usize = 12;
 pub const RESULT: usize = 20;
 pub const HEAD: usize = 240;
 pub const MOST: usize = 34_048;
@@ -210,13 +210,14 @@ fn contact_record(c: &Contact) -> [f64; CONTACT] {
     o
 }
 
-fn point_record(p: &GroundPoint) -> [f64; POINT] {
+fn point_record((p, clearance): &(GroundPoint, f64)) -> [f64; POINT] {
     let mut o = [0.0; POINT];
     o[0] = p.time;
     vec_into(&mut o[1..], p.pos);
     vec_into(&mut o[4..], p.vel);
     vec_into(&mut o[7..], p.spin);
     o[10] = phase_number(p.phase);
+    o[11] = *clearance;
     o
 }
 

@@ -687,7 +687,7 @@ pub fn number_cases() -> Vec<Case> {
             out.push(Case::new("patch edges", &s, PROGRAM));
         }
     }
-    for (contacts, points) in [(1, 0), (19, 11), (20, 10), (21, 11), (20, 12), (0, 0), (0, 11), (20, 0), (20, 11), (19, 10)] {
+    for (contacts, points) in [(1, 0), (19, 12), (20, 11), (21, 12), (20, 13), (0, 0), (0, 12), (20, 0), (20, 12), (19, 11), (20, 22), (0, 1)] {
         out.push(Case::of("list length", base.bytes(), contacts, points));
     }
     // two or three numbers at once, pair by pair

@@ -5,7 +5,7 @@ use std::hint::black_box;
 use std::time::Instant;
 
 pub const CONTACTS: usize = 64 * 20;
-pub const POINTS: usize = 4000 * 11;
+pub const POINTS: usize = 4000 * 12;
 
 /// The same shot with 0, 16 or 512 patches; the ball's way crosses the last ones listed.
 pub fn shot(patches: usize, dt: f64) -> Shot {

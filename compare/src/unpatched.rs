@@ -91,8 +91,8 @@ pub fn run(seed: u64, shots: u64, n: u64) {
                 let mut r = Rng(seed.wrapping_mul(1_000_000_007) + number);
                 let s = make(&mut r);
                 let bytes = s.bytes();
-                let a = reference::settle(&bytes, 1000 * 20, 20_000 * 11, false);
-                let b = std_build::settle(&bytes, 1000 * 20, 20_000 * 11, false);
+                let a = reference::settle(&bytes, 1000 * 20, 20_000 * 12, false);
+                let b = std_build::settle(&bytes, 1000 * 20, 20_000 * 12, false);
                 w.shots += 1;
                 let bits = |x: &[f64]| x.iter().map(|v| v.to_bits()).collect::<Vec<_>>();
                 if a.answer != b.answer {

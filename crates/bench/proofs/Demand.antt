@@ -58,37 +58,37 @@ tooFast : BallState
 tooFast = record { time = dec 0 1; pos = zero3; vel = vec (dec 201 1) (dec 0 1) (dec 0 1); spin = zero3 }
 
 -- answer 0: sheets of different length, different old contents
-at-rest : settleOf sheetT (shotS 1000 atZero) (ones 20) (ones 22) ≡ settleOf sheetS (shotS 1000 atZero) (zeros 20) (zeros 22)
+at-rest : settleOf sheetT (shotS 1000 atZero) (ones 20) (ones 24) ≡ settleOf sheetS (shotS 1000 atZero) (zeros 20) (zeros 24)
 unfolding definitions zeros ones
 at-rest =
-    demand-3 (shotS 1000 atZero) sheetS sheetT (zeros 20) (zeros 22) (ones 20) (ones 22) accepted-s accepted-t refl refl
+    demand-3 (shotS 1000 atZero) sheetS sheetT (zeros 20) (zeros 24) (ones 20) (ones 24) accepted-s accepted-t refl refl
     (λ lo hi. absurd (let l : 4 ≤ 0 = lo in omega arith)) (λ x z i j w. alike x z (not-ten x (w .1)))
 
 -- answer 23
-stopped : settleOf sheetT (shotS 1 falling) (ones 20) (ones 22) ≡ settleOf sheetS (shotS 1 falling) (zeros 20) (zeros 22)
+stopped : settleOf sheetT (shotS 1 falling) (ones 20) (ones 24) ≡ settleOf sheetS (shotS 1 falling) (zeros 20) (zeros 24)
 unfolding definitions zeros ones falling
 stopped =
-    demand-3 (shotS 1 falling) sheetS sheetT (zeros 20) (zeros 22) (ones 20) (ones 22) accepted-s accepted-t refl refl
+    demand-3 (shotS 1 falling) sheetS sheetT (zeros 20) (zeros 24) (ones 20) (ones 24) accepted-s accepted-t refl refl
     (λ lo hi. absurd (let l : 23 ≤ 8 = hi in omega arith)) (λ x z i j w. alike x z (not-ten x (w .1)))
 
 -- answer 7: the old contents are the same
-refused-7 : settleOf sheetT (shotS 1000 tooFast) (ones 20) (ones 22) ≡ settleOf sheetS (shotS 1000 tooFast) (ones 20) (ones 22)
+refused-7 : settleOf sheetT (shotS 1000 tooFast) (ones 20) (ones 24) ≡ settleOf sheetS (shotS 1000 tooFast) (ones 20) (ones 24)
 unfolding definitions ones tooFast
 refused-7 =
-    demand-3 (shotS 1000 tooFast) sheetS sheetT (ones 20) (ones 22) (ones 20) (ones 22) accepted-s accepted-t refl refl
+    demand-3 (shotS 1000 tooFast) sheetS sheetT (ones 20) (ones 24) (ones 20) (ones 24) accepted-s accepted-t refl refl
     (λ lo hi. (refl, refl)) (λ x z i j w. alike x z (not-ten x (w .1)))
 
-answer-7 : settleOf sheetS (shotS 1000 tooFast) (ones 20) (ones 22) .settled .answer ≡ 7
+answer-7 : settleOf sheetS (shotS 1000 tooFast) (ones 20) (ones 24) .settled .answer ≡ 7
 unfolding definitions ones tooFast
 answer-7 = refl
 
 -- answer 8: a list that is not whole records
-refused-8 : settleOf sheetT (shotS 1000 atZero) (ones 21) (ones 22) ≡ settleOf sheetS (shotS 1000 atZero) (ones 21) (ones 22)
+refused-8 : settleOf sheetT (shotS 1000 atZero) (ones 21) (ones 24) ≡ settleOf sheetS (shotS 1000 atZero) (ones 21) (ones 24)
 unfolding definitions ones
 refused-8 =
-    demand-3 (shotS 1000 atZero) sheetS sheetT (ones 21) (ones 22) (ones 21) (ones 22) accepted-s accepted-t refl refl
+    demand-3 (shotS 1000 atZero) sheetS sheetT (ones 21) (ones 24) (ones 21) (ones 24) accepted-s accepted-t refl refl
     (λ lo hi. (refl, refl)) (λ x z i j w. alike x z (not-ten x (w .1)))
 
-answer-8 : settleOf sheetS (shotS 1000 atZero) (ones 21) (ones 22) .settled .answer ≡ 8
+answer-8 : settleOf sheetS (shotS 1000 atZero) (ones 21) (ones 24) .settled .answer ≡ 8
 unfolding definitions ones
 answer-8 = refl

@@ -183,12 +183,12 @@ shot = record { physics = physics; «step_limit» = 10; ball = tour; «air_densi
 zeros : ℕ → List Float
 zeros n = replicate n (dec 0 1)
 
--- the first look is on this side of 1 and the last beyond it
-crosses : map (λ (s : Spot). lt one (s .x)) (looksOf whole shot (zeros 20) (zeros 22)) ≡ (false ∷ true ∷ [])
+-- the first look and that of the first point are on this side of 1, the next and that of the last point beyond it
+crosses : map (λ (s : Spot). lt one (s .x)) (looksOf whole shot (zeros 20) (zeros 24)) ≡ (false ∷ false ∷ true ∷ true ∷ [])
 unfolding definitions zeros
 crosses = refl
 
-settles-alike : settleOf cut shot (zeros 20) (zeros 22) ≡ settleOf whole shot (zeros 20) (zeros 22)
+settles-alike : settleOf cut shot (zeros 20) (zeros 24) ≡ settleOf whole shot (zeros 20) (zeros 24)
 settles-alike =
-    demand-3 shot whole cut (zeros 20) (zeros 22) (zeros 20) (zeros 22) accepted-whole accepted-cut refl refl
+    demand-3 shot whole cut (zeros 20) (zeros 24) (zeros 20) (zeros 24) accepted-whole accepted-cut refl refl
     (λ l h. (refl, refl)) (λ x z i j w. alike x z i)

@@ -1,5 +1,5 @@
--- Statements. Every look of two short shots, in order, in air and without: the definition's list is the one that the Rust makes through `sample`
--- (compare/data/looks.txt, whose inputs these are).
+-- Statements. Every look of two short shots, in order, in air and without: the definition's list is the one that the Rust makes through `sample`, with
+-- the look before each push of a point (02, paper 12) among them (compare/data/looks.txt, whose inputs these are).
 use Prim.Native.Nat.{ℕ, _*_}
 use mathlib.Core.Path.{_≡_, refl}
 use mathlib.Core.Bool.{false}
@@ -60,10 +60,11 @@ looksIn density = looksOf (sheetOf surface) (shot density) (replicate (64 * cont
 abbrev spot : ℕ → ℕ → Spot
 spot x z = record { x = ofBits binary64 x; z = ofBits binary64 z }
 
--- density 1.225: 32 looks in 5 steps
+-- density 1.225: 38 looks in 5 steps
 abbrev looks-air : List Spot
 looks-air =
     spot 0 0
+    ∷ spot 0 0
     ∷ spot 0x3f81_23c5_2ca0_15da 0x3f72_235e_77b4_7cfb
     ∷ spot 0 0
     ∷ spot 0x3f51_23e1_3a9e_a115 0x3f42_2393_a7fe_42a0
@@ -73,6 +74,7 @@ looks-air =
     ∷ spot 0x3f75_6cc5_8334_39b1 0x3f66_ac52_ebff_a3e8
     ∷ spot 0x3f79_b5b3_ccdc_6718 0x3f6b_3524_d709_6dfa
     ∷ spot 0x3f7d_fea0_1457_36eb 0x3f6f_bdf2_db1a_da99
+    ∷ spot 0x3f81_23c5_2ca0_15da 0x3f72_235e_77b4_7cfb
     ∷ spot 0x3f91_23a4_f03c_3bc4 0x3f82_231f_1cc1_3782
     ∷ spot 0x3f81_23c5_2ca0_15da 0x3f72_235e_77b4_7cfb
     ∷ spot 0x3f83_4839_4d86_ae03 0x3f74_67c1_85fe_c54e
@@ -82,6 +84,7 @@ looks-air =
     ∷ spot 0x3f8b_d9ff_b82c_8b58 0x3f7d_7939_a355_3e8e
     ∷ spot 0x3f8d_fe6e_ca30_5b92 0x3f7f_bd92_921a_2f5b
     ∷ spot 0x3f90_116e_6be4_0cd4 0x3f81_00f4_b800_397a
+    ∷ spot 0x3f91_23a4_f03c_3bc4 0x3f82_231f_1cc1_3782
     ∷ spot 0x3f99_b546_936a_0d54 0x3f8b_344c_0ea6_beac
     ∷ spot 0x3f91_23a4_f03c_3bc4 0x3f82_231f_1cc1_3782
     ∷ spot 0x3f92_35da_f1dc_ecba 0x3f83_4548_75a8_583e
@@ -93,7 +96,10 @@ looks-air =
     ∷ spot 0x3f93_91ed_dee8_f8bb 0x3f84_b599_e6b7_ff16
     ∷ spot 0x3f93_91ed_dee8_f8bb 0x3f84_b599_e6b7_ff16
     ∷ spot 0x3f93_91ed_dee8_f8bb 0x3f84_b599_e6b7_ff16
+    ∷ spot 0x3f93_91ed_dee8_f8bb 0x3f84_b599_e6b7_ff16
     ∷ spot 0x3f9b_5d73_41da_83d5 0x3f8d_3bfd_156f_9ee9
+    ∷ spot 0x3f9b_5d73_41da_83d5 0x3f8d_3bfd_156f_9ee9
+    ∷ spot 0x3fa0_5b9e_e04f_350f 0x3f91_96be_9df8_281f
     ∷ spot 0x3fa0_5b9e_e04f_350f 0x3f91_96be_9df8_281f
     ∷ []
 
@@ -101,10 +107,11 @@ pub same-looks-air : looksIn (dec 1225 1000) ≡ looks-air
 unfolding definitions
 same-looks-air = refl
 
--- density 0: 30 looks in 5 steps
+-- density 0: 36 looks in 5 steps
 abbrev looks-no-air : List Spot
 looks-no-air =
     spot 0 0
+    ∷ spot 0 0
     ∷ spot 0x3f81_23e5_3a86_79a9 0x3f72_239b_1248_6007
     ∷ spot 0 0
     ∷ spot 0x3f51_23e5_3a86_79a9 0x3f42_239b_1248_6007
@@ -114,6 +121,7 @@ looks-no-air =
     ∷ spot 0x3f75_6cde_8928_1814 0x3f66_ac81_d6da_7809
     ∷ spot 0x3f79_b5d7_d7c9_b67d 0x3f6b_3568_9b6c_900a
     ∷ spot 0x3f7d_fed1_266b_54e8 0x3f6f_be4f_5ffe_a80d
+    ∷ spot 0x3f81_23e5_3a86_79a9 0x3f72_239b_1248_6007
     ∷ spot 0x3f91_23e5_3a86_79a9 0x3f82_239b_1248_6007
     ∷ spot 0x3f81_23e5_3a86_79a9 0x3f72_239b_1248_6007
     ∷ spot 0x3f83_4861_e1d7_48de 0x3f74_680e_7491_6c08
@@ -123,6 +131,7 @@ looks-no-air =
     ∷ spot 0x3f8b_da54_7f1a_85b3 0x3f7d_79db_fdb5_9c0c
     ∷ spot 0x3f8d_fed1_266b_54e8 0x3f7f_be4f_5ffe_a80c
     ∷ spot 0x3f90_11a6_e6de_120e 0x3f81_0161_6123_da07
+    ∷ spot 0x3f91_23e5_3a86_79a9 0x3f82_239b_1248_6007
     ∷ spot 0x3f99_b5d7_d7c9_b67e 0x3f8b_3568_9b6c_900a
     ∷ spot 0x3f91_23e5_3a86_79a9 0x3f82_239b_1248_6007
     ∷ spot 0x3f92_3623_8e2e_e144 0x3f83_45d4_c36c_e607
@@ -132,7 +141,10 @@ looks-no-air =
     ∷ spot 0x3f93_9356_4ab7_6c10 0x3f84_b761_1837_1a2a
     ∷ spot 0x3f93_9356_4ab7_6c10 0x3f84_b761_1837_1a2a
     ∷ spot 0x3f93_9356_4ab7_6c10 0x3f84_b761_1837_1a2a
+    ∷ spot 0x3f93_9356_4ab7_6c10 0x3f84_b761_1837_1a2a
     ∷ spot 0x3f9b_5f24_1089_8e9c 0x3f8d_3e4c_aa5e_a4d5
+    ∷ spot 0x3f9b_5f24_1089_8e9c 0x3f8d_3e4c_aa5e_a4d5
+    ∷ spot 0x3fa0_5c1b_118b_7cbf 0x3f91_9791_cbfb_d301
     ∷ spot 0x3fa0_5c1b_118b_7cbf 0x3f91_9791_cbfb_d301
     ∷ []
 

@@ -12,7 +12,7 @@ use Rattle.shot.specs.declared.Shot.{Shot}
 use Rattle.course.specs.Sheet.{answerOf}
 use Rattle.tally.specs.Language.{pointWidth, contactWidth}
 
--- 8: "a list length isn't whole records (0 is whole)"
+-- 8: "a list length isn't whole records (0 is whole)"; 02, paper 12: "number 8 now counts points by twelve"
 unfoldable pub wholes : ℕ → ℕ → Bool
 wholes nc np = eqb (nc % contactWidth) 0 && eqb (np % pointWidth) 0
 

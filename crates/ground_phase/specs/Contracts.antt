@@ -33,9 +33,9 @@ abbrev pub afterGround : GroundOut → Tally
 afterGround (Ran r) = afterRun r
 afterGround (Due g t) = t
 
--- on every course, since no look is made
-abbrev pub TimesUp : BallState → Phase → Tally → List Float → RunOut → List Float → Type 0
-TimesUp s phase t l r m = (o : Oracle) (lc : List Float) → Runs o (timeUp s phase) 0 (place t lc l) (endedBy r) (place (afterRun r) lc m)
+-- the point at t_end
+abbrev pub TimesUp : Oracle → BallState → Phase → Tally → List Float → RunOut → List Float → Type 0
+TimesUp o s phase t l r m = (lc : List Float) → Runs o (timeUp s phase) 0 (place t lc l) (endedBy r) (place (afterRun r) lc m)
 
 -- the ground phase, from what its loop carries
 abbrev pub Grounds : Oracle → Conditions → Roll → Tally → List Float → GroundOut → List Float → Type 0

@@ -15,7 +15,7 @@ use state::Phase;
 use state::Termination;
 use surface::GroundSample;
 use tally::Conditions;
-use tally::Push;
+use tally::PointPush;
 use tally::Tally;
 
 // How a run came back: with its end, or stopped by a number, 20 to 23.
@@ -41,11 +41,23 @@ fn last_phase(last: LastPhase) -> Phase
 }
 
 // t_end: the point of the state, which ends the run.
-pub fn time_up(points: &mut [f64], t: Tally, s: BallState, phase: Phase) -> RunOut
-    ensures { λ r. ⌜ TimesUp s phase t (now (points .entry)) r (now (points .exit)) ⌝ }
+pub fn time_up(
+    sheet: &[u8],
+    index: &[u64],
+    points: &mut [f64],
+    t: Tally,
+    s: BallState,
+    phase: Phase,
+) -> RunOut
+    requires { ⌜ Ready (now sheet) (now index) ⌝ }
+    ensures { λ r. ⌜ TimesUp (courseOf (now (sheet .entry))) s phase t (now (points .entry)) r (now (points .exit)) ⌝ }
 {
-    let Push::Made(t1) = tally::push_point(points, t, s, phase) else {
-        return RunOut::Ended(21, t);
+    let pushed = tally::push_point(sheet, index, points, t, s, phase);
+    let t1 = match pushed {
+        PointPush::Ended(a, after) => {
+            return RunOut::Ended(a, after);
+        }
+        PointPush::Made(after) => after,
     };
     let end = Ending {
         how: Termination::MaxTime,
@@ -85,7 +97,7 @@ pub fn ground(
         let s = g.state;
         if tally::is_late(s.time, c.t_end) {
             let last = g.last;
-            return GroundOut::Ran(time_up(points, t, s, last_phase(last)));
+            return GroundOut::Ran(time_up(sheet, index, points, t, s, last_phase(last)));
         }
         if t.steps >= c.step_limit {
             return GroundOut::Due(g, t);

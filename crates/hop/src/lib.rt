@@ -16,7 +16,7 @@ use rk4::State;
 use state::BallState;
 use state::Phase;
 use tally::Conditions;
-use tally::Push;
+use tally::PointPush;
 use tally::Tally;
 use tally::Tested;
 use vector::DVec3;
@@ -152,8 +152,12 @@ fn hop_step(
         }
         Arrived::Nothing(t4) => {
             let due = tally::is_due(b.time, f.next_sample);
-            let Push::Made(t5) = tally::push_due(due, points, t4, b, Phase::Hop) else {
-                return HopPass::Ended(21, t4);
+            let sampled = tally::push_due(due, sheet, index, points, t4, b, Phase::Hop);
+            let t5 = match sampled {
+                PointPush::Ended(a, after) => {
+                    return HopPass::Ended(a, after);
+                }
+                PointPush::Made(after) => after,
             };
             let next_sample = tally::next_after(due, f.next_sample, f.next_sample);
             let on = Flight {

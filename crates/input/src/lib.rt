@@ -109,12 +109,7 @@ pub fn shot_at(s: &[u8], fading: bool) -> Shot
 }
 
 // Settles the landing that an input holds, with spin that fades in the air or is held. 12 for under 240 or over 34,048 bytes; the other answers are settle's.
-pub fn settle_input(
-    input: &[u8],
-    fading: bool,
-    contacts: &mut [f64],
-    points: &mut [f64],
-) -> Settled
+pub fn settle_input(input: &[u8], fading: bool, contacts: &mut [f64], points: &mut [f64]) -> Settled
     ensures { λ r. ⌜ result r (now (contacts .exit)) (now (points .exit)) ≡ settleInputBy fading (now (input .entry)) (now (contacts .entry)) (now (points .entry)) ⌝ }
 {
     if input.len() < 240 {

@@ -33,7 +33,7 @@ module _ (o : Oracle) (I : Past → Type 0) where
     pub saw : (p : Spot) (w : Past) → I w → I (sawAt p w)
     pub missed : (p : Spot) (w : Past) → I w → I (missedAt p w)
     pub passed : (s : BallState) (w : Past) → I w → I (passedBy s w)
-    pub point : (s : BallState) (f : Phase) (w : Past) → I w → I (pointed s f w)
+    pub point : (s : BallState) (f : Phase) (height : Float) (w : Past) → I w → I (pointed s f height w)
     pub contact : (a : BallState) (s : GroundSample) (b : BallState) (w : Past) → I w → I (touched a s b w)
     pub cut : (n : ℕ) (w : Past) → I w → I (cutTo n w)
 
@@ -49,7 +49,9 @@ module _ {o : Oracle} {I : Past → Type 0} (k : Words o I) where
   w-test s = t-test s (λ w i _. k .passed s w i) (λ w i _. i)
 
   pub w-point : (s : BallState) (f : Phase) → Holds o I (pushPoint s f)
-  w-point s f = t-point s f (λ w i _. k .point s f w i) (λ w i _. i)
+  w-point s f =
+      let p = spot (s .pos .x) (s .pos .z) in
+      t-point s f (λ w i _ _. k .point s f _ (sawAt p w) (k .saw p w i)) (λ w i _ _. k .saw p w i) (λ w i _. k .missed p w i)
 
   w-contact : (a : BallState) (s : GroundSample) (b : BallState) → Holds o I (pushContact a s b)
   w-contact a s b = t-contact a s b (λ w i _. k .contact a s b w i) (λ w i _. i)

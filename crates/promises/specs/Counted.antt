@@ -27,7 +27,8 @@ use Rattle.course.specs.Sheet.{courseOf}
 use Rattle.records.specs.Records.{Put, full, put, pushed}
 use Rattle.tally.specs.Times.{isLate}
 use Rattle.tally.specs.Language.{tested, point, contact, M, Log, Outcome, goes, stops, Ran, onward, _>>=_, pure, stopWith, if_then_else_, when, look, test}
-use Rattle.tally.specs.Language.{countEvaluation, evaluate, seenAt, pointOf, contactOf, pushPoint, pushContact, mark, truncate, makeStep, stepsLeft, inM, loop, Pass, again, over}
+use Rattle.tally.specs.Language.{countEvaluation, evaluate, seenAt, pointOf, contactOf, putPoint, pushPoint, pushContact, mark, truncate, makeStep}
+use Rattle.tally.specs.Language.{stepsLeft, inM, loop, Pass, again, over}
 use Rattle.tally.specs.declared.Conditions.{Conditions}
 use Rattle.shot.specs.declared.Shot.{Shot}
 use Rattle.arrival.specs.declared.Arc.{Arc}
@@ -121,13 +122,17 @@ module _ (o : Oracle) where
   unfolding when
   makes-when b m h = makes-if 0 m (pure tt) b h (makes-pure tt)
 
-  makes-point : (b : BallState) (f : Phase) → Makes 0 (pushPoint b f)
-  unfolding pushPoint stepsOf
-  makes-point b f l = go (pushed (l .points .room) (l .points .records) (pointOf b f))
+  makes-put : (b : BallState) (f : Phase) (y : Float) → Makes 0 (putPoint b f y)
+  unfolding putPoint stepsOf
+  makes-put b f y l = go (pushed (l .points .room) (l .points .records) (pointOf b f y))
     where
       go : (p : Put) → stepsOf o (point p l) ≡ 0
       go full = refl
       go (put rs) = refl
+
+  makes-point : (b : BallState) (f : Phase) → Makes 0 (pushPoint b f)
+  unfolding pushPoint
+  makes-point b f = makes-then (look _ _) _ 0 (makes-look _ _) (λ g. makes-put b f (g .height))
 
   makes-contact : (a : BallState) (g : GroundSample) (b : BallState) → Makes 0 (pushContact a g b)
   unfolding pushContact stepsOf

@@ -35,9 +35,9 @@ use Rattle.shot.specs.Tests.{vecAbout, landingOk}
 use Rattle.ground.specs.Tests.{refusalOf}
 use Rattle.ground.specs.Passed.{settle-passes}
 use Rattle.ground.specs.Settle.{Result, answerBy, howBy, restBy, reportOf, conditionsOf, firstLog, runOf, settleOf}
-use Rattle.promises.specs.Samples.{Sampled, sampled, number-finite}
+use Rattle.promises.specs.Samples.{Sampled, sampled, number-finite, clearance-finite}
 use Rattle.tally.specs.Triple.{Past, past, After, misses, of-run, of-every-run}
-use Rattle.promises.specs.Terms.{Answer, Each, PointOf, ContactOf, Failed}
+use Rattle.promises.specs.Terms.{Answer, Each, PointOf, Clear, ContactOf, Failed}
 use Rattle.promises.specs.Work.{train-works}
 use Rattle.promises.specs.Keeps.{Setting, Sound, Why, contacts-full, points-full, failed, limit-reached, Stops, at-ok}
 use Rattle.promises.specs.Parts.{Ended, train-keeps}
@@ -114,16 +114,16 @@ module _ (sheet : List ℕ) (shot : Shot) (cs ps : List Float) where
     pub points-counted : got .settled .points ≡ length points
     -- no more than the lists have room for
     pub contacts-fit : length contacts ≤ length cs / 20
-    pub points-fit : length points ≤ length ps / 11
+    pub points-fit : length points ≤ length ps / 12
     -- nor than max_impacts allows
     pub contacts-few : length contacts ≤ max 1 (p .«max_impacts»)
     pub each-contact : Each (ContactOf o) contacts
-    pub each-point : Each PointOf points
+    pub each-point : Each (PointOf o) points
     pub steps : got .settled .steps ≤ limit
     -- 20 comes with every lent contact record pushed, 21 with every lent point record, 23 with step_limit steps made; 22 where a test failed
     pub contacts-full : got .settled .answer ≡ 20 → (length contacts ≡ length cs / 20) × (length contacts < max 1 (p .«max_impacts»))
-    pub points-full : got .settled .answer ≡ 21 → length points ≡ length ps / 11
-    pub failed : got .settled .answer ≡ 22 → Failed o c (misses o t) (got .settled .rest)
+    pub points-full : got .settled .answer ≡ 21 → length points ≡ length ps / 12
+    pub failed : got .settled .answer ≡ 22 → Failed o c landing (misses o t) (got .settled .rest)
     pub limit-reached : got .settled .answer ≡ 23 → got .settled .steps ≡ limit
     -- the count is of the steps that the run made
     pub made : got .settled .steps ≡ stepsOf o t
@@ -137,7 +137,7 @@ module _ (sheet : List ℕ) (shot : Shot) (cs ps : List Float) where
   impacts-left n = let a = le-max-left 1 n in let b = le-max-right 1 n in omega (arith, a, b)
 
   abbrev e : Setting
-  e = record { course = o; conditions = c; contacts = length cs / 20; points = length ps / 11; most = max 1 (p .«max_impacts») }
+  e = record { course = o; conditions = c; landing = landing; contacts = length cs / 20; points = length ps / 12; most = max 1 (p .«max_impacts») }
 
   -- what the whole run has behind it
   abbrev end : Past
@@ -172,10 +172,10 @@ module _ (sheet : List ℕ) (shot : Shot) (cs ps : List Float) where
     reason-20 : Why e w 20 → (length (w .log .contacts .records) ≡ length cs / 20) × (length (w .log .contacts .records) < max 1 (p .«max_impacts»))
     reason-20 (contacts-full a b d) = (b, d)
 
-    reason-21 : Why e w 21 → length (w .log .points .records) ≡ length ps / 11
+    reason-21 : Why e w 21 → length (w .log .points .records) ≡ length ps / 12
     reason-21 (points-full a b) = b
 
-    reason-22 : Why e w 22 → Failed o c (w .off) (w .log .good)
+    reason-22 : Why e w 22 → Failed o c landing (w .off) (w .log .good)
     reason-22 (failed a) = a
 
     reason-23 : Why e w 23 → w .log .steps ≡ limit
@@ -203,6 +203,7 @@ module _ (sheet : List ℕ) (shot : Shot) (cs ps : List Float) where
         };
         frame = impacts-left (p .«max_impacts»);
         good = refl;
+        over = λ d. d;
         on = refl;
       }) in
       let s = all-sound (run o t .outcome) end k in
@@ -231,7 +232,7 @@ module _ (sheet : List ℕ) (shot : Shot) (cs ps : List Float) where
         rest = rw (h, value-is) (rest-ok (run o t .outcome) end k);
       }
 
--- ---- every number of a pushed point is finite
+-- ---- every number of a pushed point is finite, its clearance too
 
 abbrev pub Finite : List Float → Type 0
 Finite [] = Unit
@@ -265,13 +266,33 @@ state-finite s h =
     let d = and-parts (vecOk (s .vel)) (vecOk (s .spin)) (b .1) in
     record { time = coord-fin _ (a .0); pos = vec-finite (s .pos) (b .0); vel = vec-finite (s .vel) (d .0); spin = vec-finite (s .spin) (d .1) }
 
-pub point-finite : (r : List Float) → PointOf r → Finite r
-point-finite r h =
+y-ok : (s : BallState) → stateOk s ≡ true → T (coordOk (s .pos .y))
+unfolding stateOk vecOk
+y-ok s h =
+    let a = and-parts (coordOk (s .time)) (vecOk (s .pos) && (vecOk (s .vel) && vecOk (s .spin))) (rw h tt) in
+    let b = and-parts (vecOk (s .pos)) (vecOk (s .vel) && vecOk (s .spin)) (a .1) in
+    let p = s .pos in
+    and-parts (coordOk (p .y)) (coordOk (p .z)) (and-parts (coordOk (p .x)) (coordOk (p .y) && coordOk (p .z)) (b .0) .1) .0
+
+pub point-finite : (s : List ℕ) → Accepted s → (r : List Float) → PointOf (courseOf s) r → Finite r
+point-finite t ok r h =
     let s = state-finite (h .state) (h .ok) in
+    let c = clearance-finite t (h .state .pos .x) (h .state .pos .y) (h .state .pos .z) ok (rw (h .spot-ok) tt) (y-ok (h .state) (h .ok)) in
     let x = s .pos in
     let v = s .vel in
     let w = s .spin in
-    rw (h .is) (s .time, (x .0, (x .1, (x .2, (v .0, (v .1, (v .2, (w .0, (w .1, (w .2, (phase-finite (h .phase), tt)))))))))))
+    rw (h .is) (s .time, (x .0, (x .1, (x .2, (v .0, (v .1, (v .2, (w .0, (w .1, (w .2, (phase-finite (h .phase), (c, tt))))))))))))
+
+-- its twelfth number is its y less the course's height at its x and z
+pub point-clear : (s : List ℕ) → Accepted s → (r : List Float) → PointOf (courseOf s) r → Clear (courseOf s) r
+point-clear s ok r h =
+    let p = h .state .pos in
+    let f = clearance-finite s (p .x) (p .y) (p .z) ok (rw (h .spot-ok) tt) (y-ok (h .state) (h .ok)) in
+    rw (h .is) (record { wide = refl; is = refl; finite = f })
+
+pub each-map : (P Q : List Float → Type 0) → ((r : List Float) → P r → Q r) → (rs : Records) → Each P rs → Each Q rs
+each-map P Q f [] h = tt
+each-map P Q f (r ∷ rs) h = (f r (h .0), each-map P Q f rs (h .1))
 
 -- every number of a pushed contact is finite
 pub contact-finite : (s : List ℕ) → Accepted s → (r : List Float) → ContactOf (courseOf s) r → Finite r

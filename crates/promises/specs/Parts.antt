@@ -5,7 +5,8 @@ use mathlib.Core.Path.{_≡_, refl, ap, _∙_, sym}
 use mathlib.Core.Bool.{Bool, true, false, not, _&&_, cond}
 use mathlib.Core.Option.{Option, none, some}
 use lib.Dec.{eqb}
-use lib.Ieee.{Float, le, eq, neg}
+use lib.Ieee.{Float, binary64, le, eq, neg}
+use lib.Ieee.Fits.{add-fits}
 use Rattle.number.specs.Ops.{_⊖_, _⊗_, dec}
 use Rattle.state.specs.declared.BallState.{BallState}
 use Rattle.surface.specs.declared.GroundSample.{GroundSample}
@@ -14,7 +15,9 @@ use Rattle.aero.specs.declared.AeroParams.{AeroParams}
 use Rattle.state.specs.declared.Phase.{Phase}
 use Rattle.state.specs.declared.Phase.the-variants.{Hop as InHop}
 use Rattle.vector.specs.declared.DVec3.{DVec3}
+use Rattle.look.specs.Rect.{spotOk}
 use Rattle.look.specs.Tree.{Oracle}
+use Rattle.rk4.specs.Rk4.{weightedIn, stepOf}
 use Rattle.search.specs.Search.{rootFrom, findRoot, afterStep, narrowed, inBracket}
 use Rattle.search.specs.declared.Bracket.{Bracket}
 use Rattle.search.specs.declared.Search.{Search}
@@ -22,14 +25,14 @@ use Rattle.search.specs.declared.RootStep.{RootStep}
 use Rattle.search.specs.declared.RootStep.the-variants.{Next, Found}
 use Rattle.tally.specs.Language.{M, inM, look, pushContact, evaluate}
 use Rattle.tally.specs.declared.Conditions.{Conditions}
-use Rattle.arrival.specs.Arrival.{clearance, clearanceAt, subStep, crossingFrom, firstCrossing, endValue, crossingTime, placed, hopArrival}
+use Rattle.arrival.specs.Arrival.{arcOf, clearance, clearanceAt, subStep, crossingFrom, firstCrossing, endValue, crossingTime, placed, hopArrival}
 use Rattle.arrival.specs.FirstCrossing.{IfSome}
 use Rattle.arrival.specs.declared.Arc.{Arc}
 use Rattle.hop.specs.Hop.{spinAfter, aeroFor, stepArc, stepEnd, hopNext, hopStep, hopFrom, hop}
 use Rattle.hop.specs.declared.Flight.{Flight}
 use Rattle.hop.specs.declared.Way.{Way}
 use Rattle.hop.specs.declared.Way.the-variants.{Arrived, Late}
-use Rattle.vector.specs.Vec.{vsub, vscale, vdot, vlength, vnormalize, sameVec}
+use Rattle.vector.specs.Vec.{vadd, vsub, vscale, vdot, vlength, vnormalize, sameVec}
 use Rattle.impact.specs.Impact.{effectiveNormal, impactOf, struck as hitBy}
 use Rattle.contact.specs.Contact.{slipOf, ontoOf}
 use Rattle.rolling.specs.declared.Stepped.{Stepped}
@@ -46,10 +49,10 @@ use Rattle.strike.specs.declared.Flown.{Flown}
 use Rattle.strike.specs.declared.Flown.the-variants.{Hop, Ground}
 use Rattle.train.specs.Train.{lastImpact, toGround, trainFrom, train}
 use Rattle.tally.specs.Triple.{t-made, t-evaluation, evaluatedOnce, Past, After, OnWith, Triple, t-before, t-after, t-bind, t-then, t-fact, t-know, t-of, t-if, t-pure, t-same, t-loop}
-use Rattle.promises.specs.Terms.{Answer, SampleOf, Ok, under, Placed, GivenBy, struckAt, arcFrom, Grounded, at-once, after-hop}
-use Rattle.promises.specs.Terms.{impact, hop-step, arrival, drop as dropping, ground-step}
+use Rattle.promises.specs.Terms.{Answer, SampleOf, Ok, OverDoubles, under, Placed, GivenBy, struckAt, arcFrom, Grounded, at-once, after-hop}
+use Rattle.promises.specs.Terms.{impact, hop-step, arrival, drop as dropping, ground-step, on-path, below-step}
 use Rattle.promises.specs.Keeps.{Setting, Keeps, At, Within, at-ok, at-frame, t-given}
-use Rattle.promises.specs.Keeps.{a-look, a-evaluation, a-test, a-point-own, a-contact, a-mark, a-truncate, a-when, a-step, a-left, a-limit}
+use Rattle.promises.specs.Keeps.{over-doubles, a-look, a-look-own, a-evaluation, a-test, a-point-own, a-contact, a-mark, a-truncate, a-when, a-step, a-left, a-limit}
 
 -- ---- the drag and lift of a hop's steps, from step to step
 own-self : (b : Bool) (w : DVec3) → aeroFor b (fromSpinVector w) w ≡ fromSpinVector w
@@ -65,18 +68,29 @@ own-kept false aero h w e = e
 
 -- ---- where a hop meets the ground: looks alone. What every look keeps, this keeps
 
-module _ {o : Oracle} {P : Past → Type 0} {R : ℕ → Past → Type 0} (look-keeps : (x z : Float) → Triple o P (look x z) (λ s w. P w × (s ≡ o x z)) R)
+pub l-clearance : {o : Oracle} {P : Past → Type 0} {R : ℕ → Past → Type 0} (p : DVec3)
+    → Triple o P (look (p .x) (p .z)) (λ s w. P w × (s ≡ o (p .x) (p .z))) R
+    → Triple o P (clearance p) (λ a w. P w × (a ≡ p .y ⊖ o (p .x) (p .z) .height)) R
+unfolding clearance
+l-clearance p t = t-then t (λ s h. t-pure (λ w a. (a, rw h)))
+
+-- an arrival, if there is one, is over doubles
+abbrev pub Arrives : Option BallState → Type 0
+Arrives none = Unit
+Arrives (some s) = OverDoubles s
+
+-- a look on the arc, tau into its step
+abbrev LooksOn : (o : Oracle) (P : Past → Type 0) (R : ℕ → Past → Type 0) → DVec3 → Type 0
+LooksOn o P R p = Triple o P (look (p .x) (p .z)) (λ s w. P w × ((s ≡ o (p .x) (p .z)) × (spotOk (p .x) (p .z) ≡ true))) R
+
+module _ {o : Oracle} {P : Past → Type 0} {R : ℕ → Past → Type 0} (arc : Arc) (look-keeps : (tau : Float) → LooksOn o P R (arcOf arc tau .pos))
     (evaluation-keeps : (w : Past) → P w → P (evaluatedOnce w)) where
   abbrev Looks : {A : Type 0} → M A → Type 0
   Looks m = Triple o P m (λ _. P) R
 
-  pub l-clearance : (p : DVec3) → Triple o P (clearance p) (λ a w. P w × (a ≡ p .y ⊖ o (p .x) (p .z) .height)) R
-  unfolding clearance
-  l-clearance p = t-then (look-keeps _ _) (λ s h. t-pure (λ w a. (a, rw h)))
-
-  l-clearanceAt : (arc : Arc) (tau : Float) → Looks (clearanceAt arc tau)
+  l-clearanceAt : (tau : Float) → Looks (clearanceAt arc tau)
   unfolding clearanceAt
-  l-clearanceAt arc tau = t-after (λ a w h. h .0) (λ n w h. h) (l-clearance _)
+  l-clearanceAt tau = t-after (λ a w h. h .0) (λ n w h. h) (l-clearance _ (t-after (λ a w h. (h .0, h .1 .0)) (λ n w h. h) (look-keeps tau)))
 
   module _ (f : Float → M Float) (kf : (x : Float) → Looks (f x)) where
     l-subStep : (len fEnd : Float) (i : ℕ) (b : Bracket) → Looks (subStep f len fEnd i b)
@@ -101,24 +115,25 @@ module _ {o : Oracle} {P : Past → Type 0} {R : ℕ → Past → Type 0} (look-
         next h (Next t) = h t
         next h (Found x) = t-same
 
-  l-endValue : (arc : Arc) (b : Bracket) → Looks (endValue arc b)
+  l-endValue : (b : Bracket) → Looks (endValue arc b)
   unfolding endValue
-  l-endValue arc b = t-if (eq (b .hi) (arc .h)) (λ _. t-bind (l-clearanceAt arc _) (λ x. t-same)) (λ _. t-same)
+  l-endValue b = t-if (eq (b .hi) (arc .h)) (λ _. t-bind (l-clearanceAt _) (λ x. t-same)) (λ _. t-same)
 
-  l-crossingTime : (arc : Arc) (b : Bracket) → Looks (crossingTime arc b)
+  l-crossingTime : (b : Bracket) → Looks (crossingTime arc b)
   unfolding crossingTime findRoot
-  l-crossingTime arc b = t-bind (l-endValue arc b) (λ x. t-then (look-keeps _ _) (λ s _. l-root _ (l-clearanceAt arc) _ _))
+  l-crossingTime b = t-bind (l-endValue b) (λ x. t-then (look-keeps _) (λ s _. l-root _ l-clearanceAt _ _))
 
-  -- an arrival lies on the course
-  pub l-arrival : (arc : Arc) (t end : Float) (spin : DVec3) → Triple o P (hopArrival arc t end spin) (λ a w. P w × IfSome (Placed o) a) R
+  -- an arrival lies on the course, over doubles
+  pub l-arrival : (t end : Float) (spin : DVec3) → Triple o P (hopArrival arc t end spin) (λ a w. P w × (Arrives a × IfSome (Placed o) a)) R
   unfolding hopArrival firstCrossing placed
-  l-arrival arc t end spin = t-bind (l-clearanceAt arc _) (λ x. t-bind (l-crossingFrom _ (l-clearanceAt arc) _ _ 8 1 _) (elim [
-    | none ↦ t-pure (λ w p. (p, tt))
-    | some b ↦ t-bind (l-crossingTime arc b) (λ tau. t-then (look-keeps _ _) (λ s h. t-pure (λ w p. (p, ap (λ (g : GroundSample). g .height) h))))
+  l-arrival t end spin = t-bind (l-clearanceAt _) (λ x. t-bind (l-crossingFrom _ l-clearanceAt _ _ 8 1 _) (elim [
+    | none ↦ t-pure (λ w p. (p, (tt, tt)))
+    | some b ↦ t-bind (l-crossingTime b) (λ tau. t-then (look-keeps tau)
+        (λ s h. t-pure (λ w p. (p, (over-doubles _ _ (h .1), ap (λ (g : GroundSample). g .height) (h .0))))))
   ]))
 
-  pub l-hopArrival : (arc : Arc) (t end : Float) (spin : DVec3) → Looks (hopArrival arc t end spin)
-  l-hopArrival arc t end spin = t-after (λ a w h. h .0) (λ n w h. h) (l-arrival arc t end spin)
+  pub l-hopArrival : (t end : Float) (spin : DVec3) → Triple o P (hopArrival arc t end spin) (λ a w. P w × Arrives a) R
+  l-hopArrival t end spin = t-after (λ a w h. (h .0, h .1 .0)) (λ n w h. h) (l-arrival t end spin)
 
 -- ---- what stays over the same spot
 
@@ -154,6 +169,15 @@ unfolding putDown ontoOf
 put-stays c r s rolling g =
     one-of (λ x. SameSpot x s) (sameVec (g .normal) (r .«at» .normal) && eq (s .pos .y) (g .height)) _ _
     (same s) (record { x = refl; z = refl })
+
+-- over the same spot, over doubles
+same-over : {a b : BallState} → SameSpot a b → OverDoubles b → OverDoubles a
+same-over h d = (rw (h .x) (d .0), rw (h .z) (d .1))
+
+-- a hop step ends over doubles: the last thing that it does is a sum
+step-over : (o : Oracle) (c : Conditions) (s : BallState) → OverDoubles (stepEnd c (arcFrom o c s) s)
+unfolding stepEnd stepArc stepOf weightedIn vadd
+step-over o c s = (add-fits binary64 _ _, add-fits binary64 _ _)
 
 pub same-under : (o : Oracle) (a b : BallState) → SameSpot a b → under o a ≡ under o b
 same-under o a b h = rw (h .x, h .z)
@@ -192,6 +216,10 @@ module _ (e : Setting) where
   abbrev StruckBy : BallState → Struck → Type 0
   StruckBy s hit = hit ≡ struckAt (e .course) c s
 
+  -- the ball drops where it struck
+  leaves-over : (s : BallState) (hit : Struck) → StruckBy s hit → OverDoubles s → OverDoubles (dropped c hit)
+  leaves-over s hit h d = same-over (drop-stays c hit) (rw h (same-over (impact-stays s (under (e .course) s) (c .ball)) d))
+
   sampled-at : (s : BallState) (hit : Struck) → StruckBy s hit → SampleOf (e .course) (hit .«at»)
   sampled-at s hit h = record { x = s .pos .x; z = s .pos .z; is = ap (λ (x : Struck). x .«at») h }
 
@@ -208,16 +236,25 @@ module _ (e : Setting) where
     Flew way = Only (stateOf way)
 
     f-hopNext : (spin : DVec3) (n : ℕ) (f : Flight) (b : BallState) → Own spin (f .state) → Ok (f .state) → b ≡ stepEnd c (arcOn (f .state)) (f .state)
-        → (a : Option BallState) → GivenBy (e .course) (hopArrival (arcOn (f .state)) (f .state .time) (endOn b) (f .state .spin)) a
+        → (a : Option BallState) → Arrives a → GivenBy (e .course) (hopArrival (arcOn (f .state)) (f .state .time) (endOn b) (f .state .spin)) a
         → Keeps e (At e (Within e n G) b) (hopNext f b a) (OnWith (Flying spin n) Flew)
     unfolding hopNext
-    f-hopNext spin n f b own ok d (some s) l = t-then (a-test s (arrival (f .state) ok d l)) (λ x _. t-pure (λ w a. at-frame (λ j k h. h .1) a))
-    f-hopNext spin n f b own ok d none l = t-bind (a-when _ (a-point-own _)) (λ x. t-pure (λ w a. (a, rw d (own-next spin (f .state) own))))
+    f-hopNext spin n f b own ok d (some s) on l =
+        t-then (a-test s (arrival (f .state) ok d l) (λ _ _. on)) (λ x _. t-pure (λ w a. at-frame (λ j k h. h .1) a))
+    f-hopNext spin n f b own ok d none on l = t-bind (a-when _ (a-point-own _)) (λ x. t-pure (λ w a. (a, rw d (own-next spin (f .state) own))))
+
+    f-arrival : (n : ℕ) (f : Flight) (b : BallState) → Ok (f .state) → b ≡ stepEnd c (arcOn (f .state)) (f .state) → (end : Float)
+        → let m = hopArrival (arcOn (f .state)) (f .state .time) end (f .state .spin) in
+        Keeps e (At e (Within e n G) b) m (λ a w. At e (Within e n G) b w × (Arrives a × GivenBy (e .course) m a))
+    f-arrival n f b ok d end =
+        t-after (λ a w h. (h .0 .0, (h .0 .1, h .1))) (λ n w h. h)
+        (t-given (l-hopArrival _ (λ tau. a-look _ _ (on-path (f .state) ok d tau refl)) a-evaluation _ _ _))
 
     f-hopStep : (spin : DVec3) (n : ℕ) (f : Flight) → Keeps e (Flying spin (suc n) f) (hopStep c (fromSpinVector spin) f) (OnWith (Flying spin n) Flew)
     unfolding hopStep
-    f-hopStep spin n f = t-fact (λ h. rw (own-arc spin (f .state) h) (t-know (λ w. at-ok) (λ ok. t-made _ _ (a-step n _) (t-then (a-test _ (hop-step refl)) (λ b d.
-        t-then (l-clearance a-look a-evaluation _) (λ end v. t-then (t-given (l-hopArrival a-look a-evaluation _ _ _ _)) (λ a l. f-hopNext spin n f b h ok d a (rw v at l))))))))
+    f-hopStep spin n f = t-fact (λ h. rw (own-arc spin (f .state) h) (t-know (λ w. at-ok) (λ ok. t-made _ _ (a-step n _)
+        (t-then (a-test _ (hop-step refl) (λ _ _. step-over (e .course) c (f .state))) (λ b d.
+        t-then (l-clearance _ a-look-own) (λ end v. t-then (f-arrival n f b ok d end) (λ a l. f-hopNext spin n f b h ok d a (l .0) (rw v at (l .1)))))))))
 
     f-hop : (start : BallState) → Keeps e (Only start) (hop c start) Flew
     unfolding hop hopFrom
@@ -239,8 +276,11 @@ module _ (e : Setting) where
 
     f-groundStep : (n : ℕ) (r : Roll) → Keeps e (Rolling (suc n) r) (groundStep c r) (OnWith (Rolling n) Over)
     unfolding groundStep
-    f-groundStep n r = t-fact (λ on. t-made _ _ (a-step n _) (t-bind (a-when _ (a-point-own _)) (λ _. t-then (a-look _ _) (λ below h.
-        t-then (a-test _ (ground-step r refl on (rw h))) (λ b d. t-if (not (heldOf (stepOn c r .phase) (stepOn c r .state) below))
+    f-groundStep n r = t-fact (λ on. t-made _ _ (a-step n _) (t-bind (a-when _ (a-point-own _)) (λ _. t-then
+        (a-look _ _ (below-step r refl on refl)) (λ below k. let h = k .0 in
+        let stays = put-stays c r (stepOn c r .state) (stepOn c r .rolling) below in
+        t-then (a-test _ (ground-step r refl on (rw h)) (λ _ _. same-over stays (over-doubles _ _ (k .1)))) (λ b d. t-if
+        (not (heldOf (stepOn c r .phase) (stepOn c r .state) below))
         (λ _. t-pure (λ w a. (a, h ∙ sym (ap (under (e .course)) d ∙ same-under (e .course) _ _ (put-stays c r (stepOn c r .state) (stepOn c r .rolling) below)))))
         (λ _. t-bind (a-point-own _) (λ _. t-pure (λ w a. (at-frame (λ j k h. h .1) a, refl)))))))))
 
@@ -256,7 +296,8 @@ module _ (e : Setting) where
 
     f-strike : (s : BallState) → Keeps e (Only s) (strike c s) (StruckOf s)
     unfolding strike
-    f-strike s = t-then (a-look _ _) (λ g h. t-then (a-test _ (impact (rw h))) (λ b d. t-pure (λ w a. (a, rw (d, h)))))
+    f-strike s = t-then a-look-own (λ g h. t-then
+        (a-test _ (impact (rw h)) (λ _ d. same-over (impact-stays s g (c .ball)) d)) (λ b d. t-pure (λ w a. (a, rw (d, h)))))
 
     -- flown; or on the ground, after an impact that the ball left as out
     abbrev Flown-from : BallState → Flown → Past → Type 0
@@ -264,7 +305,7 @@ module _ (e : Setting) where
     Flown-from out Ground w = Only (w .log .good) w × Grounded (e .course) c out (w .log .good)
 
     own : (out g : BallState) → Grounded (e .course) c out g → (w : Past) → Only g w → Only (w .log .good) w × Grounded (e .course) c out (w .log .good)
-    own out g d w a = (record { sound = a .sound; frame = a .frame; good = refl; on = a .on }, rw (a .good) d)
+    own out g d w a = (record { sound = a .sound; frame = a .frame; good = refl; over = rw (a .good) (a .over); on = a .on }, rw (a .good) d)
 
     f-fly : (hops : Bool) (state : BallState) (hit : Struck) → Keeps e (Only (hit .out)) (fly c hops state hit) (Flown-from (hit .out))
     unfolding fly
@@ -283,9 +324,10 @@ module _ (e : Setting) where
       f-contact b kb = a-contact s (hit .«at») b ok (sampled-at s hit h) kb (λ j k t. f k t)
 
     module _ {F : ℕ → Type 0} (f : More F) (s : BallState) (ok : Ok s) (hit : Struck) (h : StruckBy s hit) {g : BallState} where
-      f-drop : Grounded (e .course) c (hit .out) g → Keeps e (Only g) (drop c s hit) (λ b w. At e (λ _. F) b w × (b ≡ dropped c hit))
+      f-drop : (OverDoubles (e .landing) → OverDoubles s) → Grounded (e .course) c (hit .out) g
+          → Keeps e (Only g) (drop c s hit) (λ b w. At e (λ _. F) b w × (b ≡ dropped c hit))
       unfolding drop
-      f-drop d = t-then (a-test _ (dropping s ok (rw h at d) (ap (dropped c) h))) (λ b i.
+      f-drop so d = t-then (a-test _ (dropping s ok (rw h at d) (ap (dropped c) h)) (λ l _. leaves-over s hit h (so l))) (λ b i.
           t-bind (t-know (λ w. at-ok) (f-contact f s ok hit h b)) (λ _. t-pure (λ w a. (a, i))))
 
   -- ---- the train
@@ -304,9 +346,10 @@ module _ (e : Setting) where
   last n k h = (tt, omega (arith, h))
 
   module _ (s : BallState) (ok : Ok s) (hit : Struck) (h : StruckBy s hit) (n : ℕ) where
-    f-toGround : {g : BallState} → Grounded (e .course) c (hit .out) g → Keeps e (Only (Room (suc n)) g) (toGround c s hit) Ended
+    f-toGround : {g : BallState} → (OverDoubles (e .landing) → OverDoubles s) → Grounded (e .course) c (hit .out) g
+        → Keeps e (Only (Room (suc n)) g) (toGround c s hit) Ended
     unfolding toGround
-    f-toGround d = t-then (f-drop (Room (suc n)) (last n) s ok hit h d) (λ b i. f-ground (λ _. Unit {0}) b (hit .«at») (below b i))
+    f-toGround so d = t-then (f-drop (Room (suc n)) (last n) s ok hit h so d) (λ b i. f-ground (λ _. Unit {0}) b (hit .«at») (below b i))
       where
         below : (b : BallState) → b ≡ dropped c hit → hit .«at» ≡ under (e .course) b
         below b i =
@@ -319,13 +362,13 @@ module _ (e : Setting) where
 
   f-trainFrom : (n : ℕ) (s : BallState) → Keeps e (Only (Room (suc n)) s) (trainFrom c n s) Ended
   unfolding trainFrom
-  f-trainFrom zero s = t-know (λ w. at-ok) (λ ok. t-then (f-strike (Room 1) s) (λ hit h.
-      t-if (not (rebounds c hit)) (λ _. f-toGround s ok hit h 0 (at-once refl)) (λ _. f-lastImpact s ok hit h 0)))
-  f-trainFrom (suc n) s = t-know (λ w. at-ok) (λ ok. t-then (f-strike (Room (suc (suc n))) s) (λ hit h.
+  f-trainFrom zero s = t-know (λ w. at-ok) (λ ok. t-know (λ w a. a .over) (λ so. t-then (f-strike (Room 1) s) (λ hit h.
+      t-if (not (rebounds c hit)) (λ _. f-toGround s ok hit h 0 so (at-once refl)) (λ _. f-lastImpact s ok hit h 0))))
+  f-trainFrom (suc n) s = t-know (λ w. at-ok) (λ ok. t-know (λ w a. a .over) (λ so. t-then (f-strike (Room (suc (suc n))) s) (λ hit h.
       t-know (λ w. at-ok) (λ kb. t-bind (f-fly (Room (suc (suc n))) _ s hit) (elim [
-        | Ground ↦ t-of (λ w. w .log .good) (λ g. t-fact (λ d. f-toGround s ok hit h (suc n) d))
+        | Ground ↦ t-of (λ w. w .log .good) (λ g. t-fact (λ d. f-toGround s ok hit h (suc n) so d))
         | Hop way ↦ t-bind (f-contact (Room (suc (suc n))) (room (suc n)) s ok hit h _ kb) (λ _. after n way (f-trainFrom n))
-      ]))))
+      ])))))
     where
       after : (n : ℕ) (way : Way) → ((s : BallState) → Keeps e (Only (Room (suc n)) s) (trainFrom c n s) Ended)
           → Keeps e (Only (Room (suc n)) (stateOf way)) (elim way [ Arrived b ↦ trainFrom c n b | Late b ↦ timeUp b InHop ]) Ended

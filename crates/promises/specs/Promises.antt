@@ -14,9 +14,11 @@ use Rattle.number.specs.Ops.{dec}
 use Rattle.number.specs.Number.{withinOf, aboutOf, finiteOf}
 use Rattle.state.specs.declared.BallState.{BallState}
 use Rattle.aero.specs.declared.BallModel.{BallModel}
-use Rattle.state.specs.State.{coordOk}
+use Rattle.state.specs.declared.Phase.{Phase}
+use Rattle.state.specs.State.{coordOk, stateOk}
 use Rattle.look.specs.Rect.{noRect}
-use Rattle.look.specs.Tree.{exec}
+use Rattle.look.specs.Tree.{Oracle, exec}
+use Rattle.records.specs.Records.{Records, shown}
 use Rattle.look.specs.Resume.{steps as stepsOf}
 use Rattle.look.specs.Within.{Edges, and-parts, coord-fin, edges-ok, no-rect-ok}
 use Rattle.look.specs.declared.Rect.{Rect}
@@ -31,12 +33,13 @@ use Rattle.roll.specs.Roll.{stepOn, putDown, groundStep}
 use Rattle.ground_phase.specs.GroundPhase.{groundFrom, ground}
 use Rattle.strike.specs.Strike.{strike, rebounds, dropped, drop}
 use Rattle.train.specs.Train.{toGround, trainFrom, train}
-use Rattle.tally.specs.Language.{stepsLeft}
+use Rattle.tally.specs.Language.{pushPoint, stepsLeft}
 use Rattle.ground.specs.Passed.{refused-by, settle-sheet, settle-passes}
 use Rattle.ground.specs.Settle.{Result, noState, reportOf, conditionsOf, runOf, settleOf}
-use Rattle.tally.specs.Triple.{misses}
-use Rattle.promises.specs.Terms.{Answer, PointOf, ContactOf, Failed}
-use Rattle.promises.specs.Finite.{Finite, StateFinite, state-finite, point-finite, contact-finite, finite-shown, settle-leaves}
+use Rattle.tally.specs.Triple.{misses, Triple, t-point}
+use Rattle.promises.specs.Terms.{Answer, Each, OverDoubles, PointOf, Clear, ContactOf, Failed}
+use Rattle.promises.specs.Keeps.{own-spot, not-both}
+use Rattle.promises.specs.Finite.{Finite, StateFinite, state-finite, point-finite, point-clear, each-map, contact-finite, finite-shown, settle-leaves}
 
 -- finite, and of magnitude at most 1,000,000
 abbrev pub About : Float → Type 0
@@ -102,13 +105,14 @@ module _ (sheet : List ℕ) (shot : Shot) (cs ps : List Float) where
   pub only-20 : got .settled .answer ≡ 20 → got .settled .contacts ≡ length cs / 20
   only-20 h = let l = settle-leaves sheet shot cs ps (stopped 20 (omega arith) h) in l .contacts-counted ∙ l .contacts-full h .0
 
-  pub only-21 : got .settled .answer ≡ 21 → got .settled .points ≡ length ps / 11
+  pub only-21 : got .settled .answer ≡ 21 → got .settled .points ≡ length ps / 12
   only-21 h = let l = settle-leaves sheet shot cs ps (stopped 21 (omega arith) h) in l .points-counted ∙ l .points-full h
 
-  -- 22: "a test above failed". 22 comes only where a test failed: of a spot before its look, the one that failed in the run; or, no spot having
-  -- failed, of a state that followed the final state of the result by an impact, a hop step, an arrival, a drop or a ground step
+  -- 22: "a test above failed". 22 comes only where a test failed: of a spot before its look, the one that failed in the run, which lay on the path of
+  -- a hop step or where a ground step came to, so that no look before a push of a point brings 22 (a landing over doubles, as every program's is); or,
+  -- no spot having failed, of a state that followed the final state of the result by an impact, a hop step, an arrival, a drop or a ground step
   pub only-22 : got .settled .answer ≡ 22
-      → Failed (courseOf sheet) (conditionsOf shot)
+      → Failed (courseOf sheet) (conditionsOf shot) (shot .landing)
       (misses (courseOf sheet) (runOf shot (length cs) (length ps))) (got .settled .rest)
   only-22 h = settle-leaves sheet shot cs ps (stopped 22 (omega arith) h) .failed h
 
@@ -193,11 +197,32 @@ module _ (sheet : List ℕ) (shot : Shot) (cs ps : List Float) where
   pub all-finite : number ≡ 0 → AllFinite
   all-finite h =
       let l = settle-leaves sheet shot cs ps h in
-      let k = contact-finite sheet (settle-sheet sheet shot (length cs) (length ps) h) in
+      let accepted = settle-sheet sheet shot (length cs) (length ps) h in
+      let k = contact-finite sheet accepted in
       record {
         contacts = rw (l .contacts-listed) (finite-shown (ContactOf (courseOf sheet)) k _ (l .contacts) (l .each-contact));
-        points = rw (l .points-listed) (finite-shown PointOf point-finite _ (l .points) (l .each-point));
+        points = rw (l .points-listed) (finite-shown (PointOf (courseOf sheet)) (point-finite sheet accepted) _ (l .points) (l .each-point));
         rest = state-finite _ (l .rest);
+      }
+
+  -- 02, paper 12: "Each point gains a twelfth number: y less the course height at its x and z". Of every accepted call, under each answer: the points
+  -- left are records of twelve numbers, the last of each being so, at the sheet's own course, bit for bit, and finite; and +0 after them
+  pub record Clearances : Type 0 where
+    pub points : Records
+    pub listed : got .points ≡ shown (length ps) points
+    pub counted : got .settled .points ≡ length points
+    pub each : Each (Clear (courseOf sheet)) points
+
+  pub clearances : number ≡ 0 → Clearances
+  clearances h =
+      let l = settle-leaves sheet shot cs ps h in
+      let o = courseOf sheet in
+      let k = point-clear sheet (settle-sheet sheet shot (length cs) (length ps) h) in
+      record {
+        points = l .points;
+        listed = l .points-listed;
+        counted = l .points-counted;
+        each = each-map (PointOf o) (Clear o) k (l .points) (l .each-point);
       }
 
   -- 01, "Course sheet": every look widens the rectangle, and "before each look x and z get the same test". Of every call: each edge is finite and
@@ -225,6 +250,12 @@ module _ (sheet : List ℕ) (shot : Shot) (cs ps : List Float) where
       go : (b : Bool) → eqb number 0 ≡ b → got .settled .evaluations ≤ 200 * got .settled .steps
       go true e = settle-leaves sheet shot cs ps (eqb-true number 0 e) .work
       go false e = rw (refused-result (eqb-false number 0 e) .counts .3) zero-le
+
+-- 02, paper 12: "its spot is tested as any look is, before the push". A push of a point of a state that passed test 22 stops with 21 alone: its
+-- look never brings 22. In a run each push is of such a state, the last that passed (only-22)
+pub push-never-22 : (o : Oracle) (s : BallState) (f : Phase) → stateOk s ≡ true → OverDoubles s
+    → Triple o (λ _. Unit {0}) (pushPoint s f) (λ _ _. Unit {0}) (λ n _. n ≡ 21)
+push-never-22 o s f ok d = t-point s f (λ w _ _ _. tt) (λ w _ _ _. refl) (λ w _ e. absurd (not-both e (own-spot s ok d)))
 
 -- the shot with n for max_impacts
 abbrev pub allowing : ℕ → Shot → Shot

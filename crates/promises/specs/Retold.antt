@@ -94,7 +94,7 @@ module _ (sheet : List ℕ) (shot : Shot) (cs ps : List Float) where
     points-are =
         let l = leaves in
         ap (λ (n : ℕ). recs pointWidth n (got .points)) (l .points-counted) ∙ ap (recs pointWidth (length (l .points))) (l .points-listed)
-        ∙ recs-shown pointWidth (length ps) (l .points) (each-long PointOf pointWidth (λ r c. ap length (c .is)) (l .points) (l .each-point))
+        ∙ recs-shown pointWidth (length ps) (l .points) (each-long (PointOf o) pointWidth (λ r c. ap length (c .is)) (l .points) (l .each-point))
         ∙ l .logged .1
 
     pub count-is : got .settled .contacts ≡ length (run o t .log .contacts .records)

@@ -7,12 +7,12 @@ use mathlib.Core.Bool.{Bool, true, false, cond, _&&_}
 use mathlib.Core.List.{List}
 use lib.Dec.{T, ltb, ltb→lt}
 use lib.IntN.{pos}
-use lib.Ieee.{Float, nan, inf, fin, binary64, up, down, unlike, ofInt, fits, round, neg, add, mul, le}
+use lib.Ieee.{Float, nan, inf, fin, binary64, up, down, unlike, ofInt, fits, round, neg, add, sub, mul, le}
 use lib.Ieee.Fits.{down-pos}
 use lib.Ieee.Exact.{HasValue}
 use lib.Ieee.Back.{round-whole}
-use Rattle.number.specs.Ops.{_⊕_, _⊗_, dec}
-use Rattle.number.specs.Rounding.{round-between, about-size, about-finite, add-mono}
+use Rattle.number.specs.Ops.{_⊕_, _⊖_, _⊗_, dec}
+use Rattle.number.specs.Rounding.{round-between, about-size, about-finite, add-mono, sub-mono}
 use Rattle.look.specs.Rect.{isDouble, spotOk}
 use Rattle.look.specs.Within.{and-parts}
 use Rattle.state.specs.State.{coordOk}
@@ -119,13 +119,19 @@ sum-within a b c d x y fa fb fc fd h k =
     within-of (a ⊕ c) (b ⊕ d) (x ⊕ y) (add-mono a x c y fa fx fc fy (within-lo a b x h) (within-lo c d y k))
     (add-mono x b y d fx fb fy fd (within-hi a b x h) (within-hi c d y k))
 
-total-finite : (h p q : Float) → T (aboutOf (dec 1000 1) h) → T (aboutOf most p) → T (aboutOf most q) → T (finiteOf ((h ⊕ p) ⊕ q))
+-- no height is beyond these
+abbrev lowest : Float
+lowest = (neg (dec 1000 1) ⊕ neg most) ⊕ neg most
+
+abbrev highest : Float
+highest = (dec 1000 1 ⊕ most) ⊕ most
+
+total-within : (h p q : Float) → T (aboutOf (dec 1000 1) h) → T (aboutOf most p) → T (aboutOf most q) → T (withinOf lowest highest ((h ⊕ p) ⊕ q))
 unfolding round neg add
-total-finite h p q a b c =
+total-within h p q a b c =
     let k = dec 1000 1 in
     let s = sum-within (neg k) k (neg most) most h p tt tt tt tt a b in
-    within-finite ((neg k ⊕ neg most) ⊕ neg most) ((k ⊕ most) ⊕ most) ((h ⊕ p) ⊕ q) tt tt
-    (sum-within (neg k ⊕ neg most) (k ⊕ most) (neg most) most (h ⊕ p) q tt tt tt tt s c)
+    sum-within (neg k ⊕ neg most) (k ⊕ most) (neg most) most (h ⊕ p) q tt tt tt tt s c
 
 four-million : (x : Float) → T (aboutOf (dec 4 1) x) → T (aboutOf million x)
 unfolding round neg le
@@ -133,26 +139,44 @@ four-million x h =
     within-of (neg million) million x (le-through (neg million) (neg (dec 4 1)) x tt (within-lo _ _ x h))
     (le-through x (dec 4 1) million (within-hi _ _ x h) tt)
 
-zero-finite : T (finiteOf (dec 0 1))
-unfolding round
-zero-finite = tt
+zero-within : T (withinOf lowest highest (dec 0 1))
+unfolding round neg add le
+zero-within = within-of lowest highest (dec 0 1) tt tt
 
 spot-about : (x z : Float) → T (spotOk x z) → T (aboutOf million x) × T (aboutOf million z)
 unfolding spotOk coordOk
 spot-about x z t = and-parts (coordOk x) (coordOk z) (and-parts (isDouble x && isDouble z) (coordOk x && coordOk z) t .1)
 
--- the height of an accepted sheet's course is finite, wherever a look may be
-pub height-finite : (s : List ℕ) (x z : Float) → Accepted s → T (spotOk x z) → T (finiteOf (courseOf s x z .height))
+height-within : (s : List ℕ) (x z : Float) → Accepted s → T (spotOk x z) → T (withinOf lowest highest (courseOf s x z .height))
 unfolding courseOf patchSample plainSample
-height-finite s x z h t =
+height-within s x z h t =
     let i = first (covers s x z) (patches s) (surfaces s) in
     go i (first-from (covers s x z) (patches s) (surfaces s)) (ltb i (surfaces s + patches s)) (ltb→lt i (surfaces s + patches s))
   where
-    go : (i : ℕ) → surfaces s ≤ i → (b : Bool) → (T b → i < surfaces s + patches s) → T (finiteOf (cond b (patchSample s x z i) (plainSample s) .height))
+    go : (i : ℕ) → surfaces s ≤ i → (b : Bool) → (T b → i < surfaces s + patches s)
+        → T (withinOf lowest highest (cond b (patchSample s x z i) (plainSample s) .height))
     go i l true f =
         let p = patch-passed s i h l (f tt) in
         let w = slopes s i (subst T (sym p) tt) in
         let v = spot-about x z t in
-        total-finite (real s i 4) (real s i 5 ⊗ x) (real s i 6 ⊗ z) (w .0)
+        total-within (real s i 4) (real s i 5 ⊗ x) (real s i 6 ⊗ z) (w .0)
         (product (real s i 5) x (four-million (real s i 5) (w .1)) (v .0)) (product (real s i 6) z (four-million (real s i 6) (w .2)) (v .1))
-    go i l false f = zero-finite
+    go i l false f = zero-within
+
+-- the height of an accepted sheet's course is finite, wherever a look may be
+pub height-finite : (s : List ℕ) (x z : Float) → Accepted s → T (spotOk x z) → T (finiteOf (courseOf s x z .height))
+unfolding round neg add
+height-finite s x z h t = within-finite lowest highest _ tt tt (height-within s x z h t)
+
+-- and so is a y of a state that passed test 22 less that height
+pub clearance-finite : (s : List ℕ) (x y z : Float) → Accepted s → T (spotOk x z) → T (coordOk y) → T (finiteOf (y ⊖ courseOf s x z .height))
+unfolding round neg add sub coordOk
+clearance-finite s x y z h t k =
+    let g = courseOf s x z .height in
+    let w = height-within s x z h t in
+    let yf = within-finite (neg million) million y tt tt k in
+    let gf = within-finite lowest highest g tt tt w in
+    within-finite (neg million ⊖ highest) (million ⊖ lowest) (y ⊖ g) tt tt
+    (within-of (neg million ⊖ highest) (million ⊖ lowest) (y ⊖ g)
+    (sub-mono (neg million) y highest g tt yf tt gf (within-lo _ _ y k) (within-hi _ _ g w))
+    (sub-mono y million g lowest yf tt gf tt (within-hi _ _ y k) (within-lo _ _ g w)))

@@ -15,7 +15,7 @@ use Rattle.roll.specs.Roll.{rollFrom, stepOn, heldOf, putDown, madeOf}
 use Rattle.roll.specs.declared.Roll.{Roll}
 use Rattle.promises.specs.Terms.{Each, under}
 
--- 01: "20 a record: time, pos, .."; "Points, 11: time, pos, ..": the first four numbers of a record of either list
+-- 01: "20 a record: time, pos, .."; "Points, 11: time, pos, .." (twelve since 02, paper 12): the first four numbers of a record of either list
 abbrev pub timeOf : List Float → Float
 timeOf r = getD r 0 null
 

@@ -1,12 +1,16 @@
--- Definitions. The terms of the promises: the numbers that come with a termination, a point of a tested state, a contact of two such states and a
--- sample of the course, the states that a settle tests, the test that failed.
+-- Definitions. The terms of the promises: the numbers that come with a termination, a point of a tested state and its clearance, a contact of two such
+-- states and a sample of the course, the states that a settle tests, the looks whose spot may fail, the test that failed.
 use Prim.Native.Nat.{ℕ, _≤_}
 use mathlib.Core.Path.{_≡_}
 use mathlib.Core.Bool.{true, false}
 use mathlib.Core.List.{List, [], _∷_}
 use mathlib.Core.Option.{some}
-use lib.Ieee.{Float}
+use lib.Dec.{T}
+use lib.Ieee.{Float, nan}
+use lib.ListN.{length, getD}
 use Rattle.number.specs.Ops.{_⊖_}
+use Rattle.number.specs.Number.{finiteOf}
+use Rattle.vector.specs.declared.DVec3.{DVec3}
 use Rattle.state.specs.declared.BallState.{BallState}
 use Rattle.state.specs.declared.Phase.{Phase}
 use Rattle.state.specs.declared.Termination.{Termination}
@@ -15,12 +19,12 @@ use Rattle.state.specs.State.{stateOk}
 use Rattle.surface.specs.declared.GroundSample.{GroundSample}
 use Rattle.aero.specs.Aero.{fromSpinVector}
 use Rattle.impact.specs.Impact.{impactOf}
-use Rattle.look.specs.Rect.{spotOk}
+use Rattle.look.specs.Rect.{isDouble, spotOk}
 use Rattle.look.specs.Tree.{Oracle, Spot, run}
 use Rattle.records.specs.Records.{Records}
 use Rattle.tally.specs.Language.{M, Log, goes, pointOf, contactOf}
 use Rattle.tally.specs.declared.Conditions.{Conditions}
-use Rattle.arrival.specs.Arrival.{hopArrival}
+use Rattle.arrival.specs.Arrival.{arcOf, hopArrival}
 use Rattle.arrival.specs.declared.Arc.{Arc}
 use Rattle.hop.specs.Hop.{stepArc, stepEnd, hop}
 use Rattle.hop.specs.declared.Way.the-variants.{Arrived}
@@ -36,6 +40,10 @@ Answer Rest n = n ≡ 0
 Answer MaxTime n = n ≡ 0
 Answer MaxImpacts n = n ≡ 0
 
+-- the number at place i of a record, from 0
+abbrev pub nth : List Float → ℕ → Float
+nth r i = getD r i nan
+
 -- P of each record
 abbrev pub Each : (List Float → Type 0) → Records → Type 0
 Each P [] = Unit
@@ -45,12 +53,13 @@ Each P (r ∷ rs) = P r × Each P rs
 abbrev pub Ok : BallState → Type 0
 Ok s = stateOk s ≡ true
 
--- a point of a state that passed its test
-pub record PointOf (r : List Float) : Type 0 where
-  pub state : BallState
-  pub phase : Phase
-  pub ok : stateOk state ≡ true
-  pub is : r ≡ pointOf state phase
+-- its x and z are doubles: so is each number that a program holds, but these statements are over all numbers
+abbrev pub OverDoubles : BallState → Type 0
+OverDoubles s = T (isDouble (s .pos .x)) × T (isDouble (s .pos .z))
+
+-- the spot under a position
+abbrev pub spotUnder : DVec3 → Spot
+spotUnder p = record { x = p .x; z = p .z }
 
 module _ (o : Oracle) where
   -- a sample of the course
@@ -76,6 +85,21 @@ module _ (o : Oracle) where
   -- y is the height of the course under it, bit for bit
   abbrev pub Placed : BallState → Type 0
   Placed s = s .pos .y ≡ under s .height
+
+  -- a point of a state that passed its test, over the course under it; its spot passed its test too
+  pub record PointOf (r : List Float) : Type 0 where
+    pub state : BallState
+    pub phase : Phase
+    pub ok : stateOk state ≡ true
+    pub spot-ok : spotOk (state .pos .x) (state .pos .z) ≡ true
+    pub is : r ≡ pointOf state phase (under state .height)
+
+  -- 02, paper 12: "a twelfth number: y less the course height at its x and z". A record of twelve numbers, the last of which is that of its second,
+  -- third and fourth, and finite
+  pub record Clear (r : List Float) : Type 0 where
+    pub wide : length r ≡ 12
+    pub is : nth r 11 ≡ nth r 2 ⊖ o (nth r 1) (nth r 3) .height
+    pub finite : T (finiteOf (nth r 11))
 
   -- a is what the part m gives, from some log
   pub record GivenBy {A : Type 0} (m : M A) (a : A) : Type 0 where
@@ -109,7 +133,13 @@ module _ (o : Oracle) where
       -- the ground step from g, on the ground under it
       ground-step : (r : Roll) → r .state ≡ g → r .«at» ≡ under g → s ≡ putDown c r (stepOn c r .state) (stepOn c r .rolling) (under (stepOn c r .state)) → Follows g s
 
+    -- the looks whose spot p may fail its test, where g is the last state that passed: on the path of the hop step from f, which ended at g; and
+    -- where the ground step from g, on the ground under it, came to. An impact, a hop step's end and a push look at g's own spot, which passes
+    pub data Sought (g : BallState) (p : Spot) : Type 0 where
+      on-path : (f : BallState) → Ok f → g ≡ stepEnd c (arcFrom f) f → (tau : Float) → p ≡ spotUnder (arcOf (arcFrom f) tau .pos) → Sought g p
+      below-step : (r : Roll) → r .state ≡ g → r .«at» ≡ under g → p ≡ spotUnder (stepOn c r .state .pos) → Sought g p
+
     -- the test that failed: of a spot, the one that failed; or of a state that followed the last good one, each spot having passed
-    pub data Failed (off : List Spot) (good : BallState) : Type 0 where
-      of-spot : (p : Spot) → off ≡ p ∷ [] → spotOk (p .x) (p .z) ≡ false → Failed off good
-      of-state : off ≡ [] → (s : BallState) → Follows good s → stateOk s ≡ false → Failed off good
+    pub data Failed (landing : BallState) (off : List Spot) (good : BallState) : Type 0 where
+      of-spot : (p : Spot) → off ≡ p ∷ [] → spotOk (p .x) (p .z) ≡ false → (OverDoubles landing → Sought good p) → Failed landing off good
+      of-state : off ≡ [] → (s : BallState) → Follows good s → stateOk s ≡ false → Failed landing off good

@@ -113,7 +113,7 @@ module _ (o : Oracle) (c : Conditions) (paced : Paced c) (most : ℕ) (start : F
     points-carry =
         record {
           later = λ t u cs ps l h. (h .0, up-later t u ps l (h .1));
-          more = λ s f cs ps i h. (h .0, up-more (s .time) ps (pointOf s f) refl (self s i) (h .1));
+          more = λ s f y cs ps i h. (h .0, up-more (s .time) ps (pointOf s f y) refl (self s i) (h .1));
         }
 
     -- and those before the mark m, to the time t₀
@@ -124,7 +124,7 @@ module _ (o : Oracle) (c : Conditions) (paced : Paced c) (most : ℕ) (start : F
     mark-carries m t₀ =
         record {
           later = λ t u cs ps l h. (h .0, (up-later t u ps l (h .1 .0), h .1 .1));
-          more = λ s f cs ps i h. (h .0, (up-more (s .time) ps (pointOf s f) refl (self s i) (h .1 .0), marked-more m t₀ ps (pointOf s f) (h .1 .1)));
+          more = λ s f y cs ps i h. (h .0, (up-more (s .time) ps (pointOf s f y) refl (self s i) (h .1 .0), marked-more m t₀ ps (pointOf s f y) (h .1 .1)));
         }
 
     abbrev To : Float → Past → Type 0
@@ -166,7 +166,7 @@ module _ (o : Oracle) (c : Conditions) (paced : Paced c) (most : ℕ) (start : F
         t-if (not hops) (λ _. t-pure (λ w a. a)) (λ _.
         t-bind {Q = λ m. Of (λ cs ps ms. past-mark K m t₀ t₀ cs ps)} (t-mark (λ w a. (a .0, (a .1, marked t₀ _ (a .1))))) (λ m.
         t-bind {Q = λ _. Of (λ cs ps ms. past-mark K m t₀ t₀ cs ps)} (t-point (hit .out) InHop
-        (λ w a _. mark-carries K m t₀ .more (hit .out) InHop _ _ (h .timed) a) (λ w a _. tt)) (λ _.
+        (λ w a _ _. mark-carries K m t₀ .more (hit .out) InHop _ _ _ (h .timed) a) (λ w a _ _. tt) (λ w a _. tt)) (λ _.
         t-bind (h-hop o c paced (past-mark K m t₀) (mark-carries K m t₀) (hit .out) (h .timed)) (elim [
           | Late b ↦ t-pure (λ w a. ((a .0 .0, a .0 .1 .0), a .1))
           | Arrived b ↦ t-if (diesOut c s hit b) (λ _. t-pure (λ w a. ((a .0 .0, a .0 .1 .0), a .1)))
@@ -216,7 +216,8 @@ module _ (o : Oracle) (c : Conditions) (paced : Paced c) (most : ℕ) (start : F
     t-lastImpact : Triple o (To (Before 1 s) (hit .out .time)) (lastImpact s hit) Tells Any
     unfolding lastImpact
     t-lastImpact = t-bind (t-touch 0 (hit .out .time) _ _) (λ _. t-bind {Q = λ _. To (After 0 (s .time)) (hit .out .time)}
-        (t-point (hit .out) InHop (λ w a _. points-carry (After 0 (s .time)) .more (hit .out) InHop (contactsOf w) (pointsOf w) (h .timed) a) (λ w a _. tt))
+        (t-point (hit .out) InHop
+        (λ w a _ _. points-carry (After 0 (s .time)) .more (hit .out) InHop _ (contactsOf w) (pointsOf w) (h .timed) a) (λ w a _ _. tt) (λ w a _. tt))
         (λ _. t-pure (λ w a. let k = a .0 .count in
         record {
           first = begins-first start (contactsOf w) (s .time) (a .0 .from (s .time));

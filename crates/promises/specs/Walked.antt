@@ -19,6 +19,7 @@ use Rattle.state.specs.declared.Termination.the-variants.{Nothing, Rest, MaxTim
 use Rattle.surface.specs.declared.GroundSample.{GroundSample}
 use Rattle.aero.specs.Aero.{fromSpinVector, radiusOf}
 use Rattle.aero.specs.declared.AeroParams.{AeroParams}
+use Rattle.look.specs.Rect.{spotOk}
 use Rattle.look.specs.Tree.{Made, Oracle}
 use Rattle.records.specs.Records.{Records}
 use Rattle.contact.specs.Contact.{sampleHolds}
@@ -65,7 +66,7 @@ Of X w = X (contactsOf w) (pointsOf w) (w .made)
 -- what a list of points keeps, to the time t: pushes at that time, and the passing of time
 pub record Carries (X : Float → Records → Records → Type 0) : Type 0 where
   pub later : (t u : Float) (cs ps : Records) → T (le t u) → X t cs ps → X u cs ps
-  pub more : (s : BallState) (f : Phase) (cs ps : Records) → Timed s → X (s .time) cs ps → X (s .time) cs (ps ++ (pointOf s f ∷ []))
+  pub more : (s : BallState) (f : Phase) (height : Float) (cs ps : Records) → Timed s → X (s .time) cs ps → X (s .time) cs (ps ++ (pointOf s f height ∷ []))
 
 -- a ball that arrived lies on the course
 abbrev pub Landed : Oracle → Way → Type 0
@@ -77,6 +78,10 @@ module _ {o : Oracle} where
   module _ (X : Records → Records → List Made → Type 0) where
     pub w-look : (x z : Float) → Triple o (Of X) (look x z) (λ s w. Of X w × (s ≡ o x z)) Any
     w-look x z = t-look x z (λ w h _. (h, refl)) (λ w h _. tt)
+
+    -- and the spot passed its test
+    w-look-ok : (x z : Float) → Triple o (Of X) (look x z) (λ s w. Of X w × ((s ≡ o x z) × (spotOk x z ≡ true))) Any
+    w-look-ok x z = t-look x z (λ w h e. (h, (refl, e))) (λ w h _. tt)
 
     pub w-test : (s : BallState) → Triple o (Of X) (test s) (λ b w. Of X w × ((b ≡ s) × Ok s)) Any
     w-test s = t-test s (λ w h e. (h, (refl, e))) (λ w h _. tt)
@@ -188,13 +193,13 @@ module _ (o : Oracle) (c : Conditions) (paced : Paced c) where
     h-next t f b none p = t-bind {Q = λ _. Onto t b} (t-when _ push (on-later t b)) (λ _. t-pure (λ w h. h))
       where
         push : Triple o (At t) (pushPoint b InHop) (λ _. Onto t b) Any
-        push = t-point b InHop (λ w h _ l. carries .more b InHop _ _ (l .timed) (on-later t b w h l)) (λ w h _. tt)
+        push = t-point b InHop (λ w h _ _ l. carries .more b InHop _ _ _ (l .timed) (on-later t b w h l)) (λ w h _ _. tt) (λ w h _. tt)
 
     h-step : (aero : AeroParams) (f : Flight) → Triple o (At (f .state .time)) (hopStep c aero f) (Hopped (f .state .time)) Any
     unfolding hopStep
     h-step aero f = t-made _ _ (t-step _ (λ w h. h)) (t-then (w-test (to (f .state .time)) _) (λ b h.
-        t-then (l-clearance (w-look (to (f .state .time))) (λ w h. h) _) (λ end _.
-        t-then (l-arrival (w-look (to (f .state .time))) (λ w h. h) _ _ _ _) (h-next (f .state .time) f b))))
+        t-then (l-clearance _ (w-look (to (f .state .time)) _ _)) (λ end _.
+        t-then (l-arrival _ (λ tau. w-look-ok (to (f .state .time)) _ _) (λ w h. h) _ _ _) (λ a p. h-next (f .state .time) f b a (p .1)))))
 
     -- from a time t₀ on, with tested states
     abbrev Flying : Float → ℕ → Flight → Past → Type 0
@@ -245,12 +250,12 @@ module _ (o : Oracle) (c : Conditions) (paced : Paced c) where
         let s = stepOn c g in
         let Y : Records → Records → List Made → Type 0 = λ cs ps ms. X t cs ps × LastIs (madeOf (g .state) s) ms in
         t-made {Q = Of Y} _ _ (t-step _ (λ w h. (h, record { before = w .made; is = refl })))
-        (t-bind {Q = λ _. Of Y} (t-when _ (t-point (g .state) (s .phase) (λ w h _. (carries .more (g .state) (s .phase) _ _ i (h .0), h .1)) (λ w h _. tt))
+        (t-bind {Q = λ _. Of Y} (t-when _ (t-point (g .state) (s .phase) (λ w h _ _. (carries .more (g .state) (s .phase) _ _ _ i (h .0), h .1)) (λ w h _ _. tt) (λ w h _. tt))
         (λ w h. h)) (λ _.
         t-then (w-look Y _ _) (λ below h. t-then (w-test Y (putDown c g (s .state) (s .rolling) below)) (λ b k. t-if (not (heldOf (s .phase) (s .state) below))
         (λ _. t-pure (λ w a. (on-later t b w (a .0), h ∙ sym (ap (under o) (k .0) ∙ same-under o _ _ (put-stays c g (s .state) (s .rolling) below)))))
         (λ e. t-bind {Q = λ _ w. Onto t b w × LastIs (madeOf (g .state) s) (w .made)}
-        (t-point b _ (λ w a _. (λ l. carries .more b InRoll _ _ (l .timed) (on-later t b w (a .0) l), a .1)) (λ w a _. tt))
+        (t-point b _ (λ w a _ _. (λ l. carries .more b InRoll _ _ _ (l .timed) (on-later t b w (a .0) l), a .1)) (λ w a _ _. tt) (λ w a _. tt))
         (λ _. t-pure (λ w a. (a .0, (λ _. end below h b (k .0) (k .1) (not-false _ e) (w .made) (a .1), λ i. i)))))))))
       where
         end : (below : GroundSample) → below ≡ under o (stepOn c g .state) → (b : BallState) → b ≡ putDown c g (stepOn c g .state) (stepOn c g .rolling) below
@@ -274,7 +279,7 @@ module _ (o : Oracle) (c : Conditions) (paced : Paced c) where
 
     pub g-timeUp : (s : BallState) (phase : Phase) → Timed s → Triple o (At (s .time)) (timeUp s phase) Over Any
     unfolding timeUp
-    g-timeUp s phase i = t-bind {Q = λ _. At (s .time)} (t-point s phase (λ w h _. carries .more s phase _ _ i h) (λ w h _. tt))
+    g-timeUp s phase i = t-bind {Q = λ _. At (s .time)} (t-point s phase (λ w h _ _. carries .more s phase _ _ _ i h) (λ w h _ _. tt) (λ w h _. tt))
         (λ _. t-pure (λ w h. (h, (λ z. absurd z, λ z. z))))
 
     pub g-ground : (state : BallState) (s : GroundSample) → Timed state → s ≡ under o state → Triple o (At (state .time)) (ground c state s) Over Any

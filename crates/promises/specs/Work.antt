@@ -36,7 +36,7 @@ module _ (o : Oracle) where
     saw = λ p w h. h;
     missed = λ p w h. h;
     passed = λ s w h. h;
-    point = λ s f w h. h;
+    point = λ s f y w h. h;
     contact = λ a s b w h. h;
     cut = λ i w h. h;
   }
@@ -56,10 +56,10 @@ module _ (o : Oracle) where
   arrives arc t end spin =
       t-before {P = λ w. ((w .log .evaluations ≤ w .log .evaluations) × (w .log .steps ≡ w .log .steps)) × Spare 200 w}
       (λ w h. ((omega arith, refl), h)) (t-of {I = At} (λ w. (w .log .evaluations, w .log .steps)) (λ x. t-fact (λ h.
-      t-after (λ a w p. omega (arith, p .0, p .1, h)) (λ n w p. omega (arith, p .0, p .1, h))
+      t-after (λ a w p. omega (arith, p .0, p .1 .0, h)) (λ n w p. omega (arith, p .0, p .1, h))
       (t-both (arrival-at-most-200 arc t end spin o (x .0))
-      (l-hopArrival {P = λ w. w .log .steps ≡ x .1} {R = λ _ w. w .log .steps ≡ x .1} (λ x z. t-look x z (λ w p _. (p, refl)) (λ w p _. p)) (λ w p. p)
-      arc t end spin)))))
+      (l-hopArrival {P = λ w. w .log .steps ≡ x .1} {R = λ _ w. w .log .steps ≡ x .1} arc (λ tau. t-look _ _ (λ w p e. (p, (refl, e))) (λ w p _. p))
+      (λ w p. p) t end spin)))))
 
   next : (f : Flight) (b : BallState) (a : Option BallState) → Holds o (Spare 0) (hopNext f b a)
   unfolding hopNext

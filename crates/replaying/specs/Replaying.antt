@@ -56,7 +56,7 @@ sameOf e r = noNan (doublesOf (r .settled)) && holds e 3 (wordsOf r)
 
 -- word 0 is the input's length, and the words 1 and 2 are lengths that can be lent
 unfoldable pub intact : List ℕ → Bool
-intact e = leb 200 (length e) && eqb (wholeAt e 0) (length e - 200) && leb (wholeAt e 1) 1300 && leb (wholeAt e 2) 7051
+intact e = leb 200 (length e) && eqb (wholeAt e 0) (length e - 200) && leb (wholeAt e 1) 1300 && leb (wholeAt e 2) 7692
 
 -- every lent double is 1.0 before the call
 unfoldable pub replayedOf : List ℕ → Replayed

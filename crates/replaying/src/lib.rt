@@ -172,13 +172,13 @@ pub fn replay_entry(entry: &[u8]) -> Replayed
     if c > 1300 {
         return Replayed::Damaged;
     }
-    if p > 7051 {
+    if p > 7692 {
         return Replayed::Damaged;
     }
     let c_len = c as usize;
     let p_len = p as usize;
     let mut contacts = [1.0; 1300];
-    let mut points = [1.0; 7051];
+    let mut points = [1.0; 7692];
     if gives_same(entry, &mut contacts[..c_len], &mut points[..p_len]) {
         return Replayed::Same;
     }

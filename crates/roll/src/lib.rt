@@ -13,7 +13,7 @@ use state::Termination;
 use surface::GroundSample;
 use tally::Conditions;
 use tally::Looked;
-use tally::Push;
+use tally::PointPush;
 use tally::Tally;
 use tally::Tested;
 use vector::DVec3;
@@ -146,8 +146,12 @@ pub fn ground_step(
     let phase = s.phase;
     let last = g.last;
     let due = point_due(state.time, g.next_sample, last, phase);
-    let Push::Made(t2) = tally::push_due(due, points, t1, state, phase) else {
-        return RollPass::Ended(21, t1);
+    let sampled = tally::push_due(due, sheet, index, points, t1, state, phase);
+    let t2 = match sampled {
+        PointPush::Ended(a, after) => {
+            return RollPass::Ended(a, after);
+        }
+        PointPush::Made(after) => after,
     };
     let next = s.state;
     let pos = next.pos;
@@ -159,8 +163,12 @@ pub fn ground_step(
         return RollPass::Ended(22, t3);
     };
     if held(s, under) {
-        let Push::Made(t5) = tally::push_point(points, t4, b, Phase::Roll) else {
-            return RollPass::Ended(21, t4);
+        let rested = tally::push_point(sheet, index, points, t4, b, Phase::Roll);
+        let t5 = match rested {
+            PointPush::Ended(a, after) => {
+                return RollPass::Ended(a, after);
+            }
+            PointPush::Made(after) => after,
         };
         let end = Ending {
             how: Termination::Rest,

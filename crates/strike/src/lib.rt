@@ -13,6 +13,7 @@ use state::Phase;
 use surface::GroundSample;
 use tally::Conditions;
 use tally::Looked;
+use tally::PointPush;
 use tally::Push;
 use tally::Tally;
 use tally::Tested;
@@ -138,11 +139,15 @@ pub fn fly(
     }
     let mark = t.points;
     let out = hit.out;
-    let Push::Made(t1) = tally::push_point(points, t, out, Phase::Hop) else {
-        return FlyOut {
-            how: FlyEnd::Ended(21),
-            tally: t,
-        };
+    let pushed = tally::push_point(sheet, index, points, t, out, Phase::Hop);
+    let t1 = match pushed {
+        PointPush::Ended(a, after) => {
+            return FlyOut {
+                how: FlyEnd::Ended(a),
+                tally: after,
+            };
+        }
+        PointPush::Made(after) => after,
     };
     let flight = hop::hop(sheet, index, points, c, hop::flight_of(out), t1);
     match flight {

@@ -14,11 +14,12 @@ use lib.Seq.{drop-length}
 use Rattle.state.specs.declared.BallState.{BallState}
 use Rattle.state.specs.declared.Phase.{Phase}
 use Rattle.surface.specs.declared.GroundSample.{GroundSample}
-use Rattle.look.specs.Tree.{Made, Oracle, exec, Did, did, done}
+use Rattle.look.specs.Rect.{spotOk}
+use Rattle.look.specs.Tree.{Made, Oracle, exec, Did, did, done, bind, answer, widenWhere}
 use Rattle.records.specs.Records.{recs, null, pushed, pick, put, full, Clean}
 use Rattle.records.proofs.Laws.{recs-length, recs-zeroed, clean-zeroed, zeroed-length}
-use Rattle.tally.specs.Language.{M, Outcome, goes, stops, Ran, ran, stopWith, _>>=_, if_then_else_, when, point, contact, pointWidth}
-use Rattle.tally.specs.Language.{contactWidth, pointOf, contactOf, makeStep, look, test, pushPoint, pushContact, mark, truncate}
+use Rattle.tally.specs.Language.{M, Outcome, goes, stops, Ran, ran, stopWith, _>>=_, if_then_else_, when, seenAt, contact, pointWidth}
+use Rattle.tally.specs.Language.{contactWidth, contactOf, makeStep, look, test, putPoint, pushPoint, pushContact, mark, truncate}
 use Rattle.tally.specs.Contracts.{Place, place, logAt, RunsBy, Runs, RunsOn, Reached, MakesStep, LooksAt, Tests, PushesPoint, PushesIf, PushesContact}
 use Rattle.tally.specs.Contracts.{Truncates}
 use Rattle.tally.specs.Lists.{stay, grow}
@@ -30,6 +31,8 @@ use Rattle.tally.specs.declared.Tested.{Tested}
 use Rattle.tally.specs.declared.Tested.the-variants.{Bad, Good}
 use Rattle.tally.specs.declared.Push.{Push}
 use Rattle.tally.specs.declared.Push.the-variants.{Full, Made as Pushed}
+use Rattle.tally.specs.declared.PointPush.{PointPush}
+use Rattle.tally.specs.declared.PointPush.the-variants.{Ended, Made as Pointed}
 
 module _ {A : Type 0} {o : Oracle} {m : M A} {a : Place} where
   pub begun : Reached o m a 0 m a
@@ -151,15 +154,19 @@ one-more w n k l m r p t e =
 module _ {o : Oracle} {p q : Place} where
   pub point-more : (s : BallState) (f : Phase) → Runs o (pushPoint s f) 0 p (goes tt) q
       → (q .tally .points ≡ p .tally .points + 1) × (q .tally .points * pointWidth ≤ length (p .points))
-  unfolding pushPoint pushed exec
-  point-more s f h = go (ltb (length (recs pointWidth (p .tally .points) (p .points))) (length (p .points) / pointWidth)) refl (h .same)
+  unfolding pushPoint putPoint look _>>=_ bind pushed exec
+  point-more s f h =
+      go (spotOk (s .pos .x) (s .pos .z)) (ltb (length (recs pointWidth (p .tally .points) (p .points))) (length (p .points) / pointWidth)) refl (h .same)
     where
-      go : (b : Bool) → ltb (length (recs pointWidth (p .tally .points) (p .points))) (length (p .points) / pointWidth) ≡ b
-          → did (ran (goes tt) (logAt q)) (q .tally .rect) ≡ exec o (p .tally .rect)
-          (point (pick b (put (recs pointWidth (p .tally .points) (p .points) ++ (pointOf s f ∷ []))) full) (logAt p))
+      go : (a b : Bool) → ltb (length (recs pointWidth (p .tally .points) (p .points))) (length (p .points) / pointWidth) ≡ b
+          → did (ran (goes tt) (logAt q)) (q .tally .rect) ≡ exec o (widenWhere a (p .tally .rect) (s .pos .x) (s .pos .z))
+          ((seenAt (answer a (o (s .pos .x) (s .pos .z))) >>= λ g. putPoint s f (g .height)) (logAt p))
           → (q .tally .points ≡ p .tally .points + 1) × (q .tally .points * pointWidth ≤ length (p .points))
-      go true t e = one-more pointWidth _ _ _ _ _ (omega arith) t (ap (λ (d : Did (Ran Unit)). d .value .log .points .records) e)
-      go false t e = absurd (let f = ap (λ (d : Did (Ran Unit)). d .value .outcome) e in let z : _≡_ {A = ℕ} 0 1 = cc (f) in omega arith)
+      go true true t e =
+          one-more pointWidth _ _ _ _ _ (omega arith) t (ap (λ (d : Did (Ran Unit)). d .value .log .points .records) (rw t at e))
+      go true false t e =
+          absurd (let f = ap (λ (d : Did (Ran Unit)). d .value .outcome) (rw t at e) in let z : _≡_ {A = ℕ} 0 1 = cc (f) in omega arith)
+      go false b t e = absurd (let f = ap (λ (d : Did (Ran Unit)). d .value .outcome) e in let z : _≡_ {A = ℕ} 0 1 = cc (f) in omega arith)
 
   pub contact-more : (a : BallState) (s : GroundSample) (b : BallState) → Runs o (pushContact a s b) 0 p (goes tt) q
       → (q .tally .contacts ≡ p .tally .contacts + 1) × (q .tally .contacts * contactWidth ≤ length (p .contacts))
@@ -198,20 +205,20 @@ module _ {A : Type 0} {o : Oracle} {m : M A} {a : Place} {n : ℕ} {t : Tally} {
     pub state-bad : w ≡ Bad → Reached o m a (n + 0) (stopWith 22) (place t lc lp)
     state-bad v = halted (test b) k (rw (← e) at r) (rw v at (h o lc lp))
 
-  module _ (s : BallState) (f : Phase) (k : Unit → M A) {w : Push} {l : List Float} where
-    module _ (r : Reached o m a n (pushPoint s f >>= k) (place t lc lp)) (h : PushesPoint t lp s f w l) where
-      pub point-pushed : {t' : Tally} → w ≡ Pushed t' → Reached o m a (n + 0) (k tt) (place t' lc l)
-      point-pushed v = went _ k r (rw v at (h o lc))
+  module _ (s : BallState) (f : Phase) (k : Unit → M A) {w : PointPush} {l : List Float} where
+    module _ (r : Reached o m a n (pushPoint s f >>= k) (place t lc lp)) (h : PushesPoint o t lp s f w l) where
+      pub point-pushed : {t' : Tally} → w ≡ Pointed t' → Reached o m a (n + 0) (k tt) (place t' lc l)
+      point-pushed v = went _ k r (rw v at (h lc))
 
-      pub points-full : w ≡ Full → Reached o m a (n + 0) (stopWith 21) (place t lc l)
-      points-full v = halted _ k r (rw v at (h o lc))
+      pub point-stopped : {i : ℕ} {t' : Tally} → w ≡ Ended i t' → Reached o m a (n + 0) (stopWith i) (place t' lc l)
+      point-stopped v = halted _ k r (rw v at (h lc))
 
-    module _ (due : Bool) (r : Reached o m a n (when due (pushPoint s f) >>= k) (place t lc lp)) (h : PushesIf due t lp s f w l) where
-      pub due-pushed : {t' : Tally} → w ≡ Pushed t' → Reached o m a (n + 0) (k tt) (place t' lc l)
-      due-pushed v = went _ k r (rw v at (h o lc))
+    module _ (due : Bool) (r : Reached o m a n (when due (pushPoint s f) >>= k) (place t lc lp)) (h : PushesIf o due t lp s f w l) where
+      pub due-pushed : {t' : Tally} → w ≡ Pointed t' → Reached o m a (n + 0) (k tt) (place t' lc l)
+      due-pushed v = went _ k r (rw v at (h lc))
 
-      pub due-full : w ≡ Full → Reached o m a (n + 0) (stopWith 21) (place t lc l)
-      due-full v = halted _ k r (rw v at (h o lc))
+      pub due-stopped : {i : ℕ} {t' : Tally} → w ≡ Ended i t' → Reached o m a (n + 0) (stopWith i) (place t' lc l)
+      due-stopped v = halted _ k r (rw v at (h lc))
 
   module _ (b : BallState) (s : GroundSample) (d : BallState) (k : Unit → M A) {w : Push} {l : List Float}
       (r : Reached o m a n (pushContact b s d >>= k) (place t lc lp)) (h : PushesContact t lc b s d w l) where
@@ -222,9 +229,9 @@ module _ {A : Type 0} {o : Oracle} {m : M A} {a : Place} {n : ℕ} {t : Tally} {
     contacts-full v = halted _ k r (rw v at (h o lp))
 
 -- a push that was made, by its contract: one record more, and what the list then holds fits in it
-pub point-fits : (o : Oracle) (s : BallState) (f : Phase) {t t' : Tally} {l m : List Float} {w : Push} → PushesPoint t l s f w m → w ≡ Pushed t'
+pub point-fits : (o : Oracle) (s : BallState) (f : Phase) {t t' : Tally} {l m : List Float} {w : PointPush} → PushesPoint o t l s f w m → w ≡ Pointed t'
     → (t' .points ≡ t .points + 1) × (t' .points * pointWidth ≤ length l)
-point-fits o s f {m = m} h v = point-more s f (rw v at (h o m))
+point-fits o s f {m = m} h v = point-more s f (rw v at (h m))
 
 pub contact-fits : (o : Oracle) (a : BallState) (s : GroundSample) (b : BallState) {t t' : Tally} {l m : List Float} {w : Push}
     → PushesContact t l a s b w m → w ≡ Pushed t'

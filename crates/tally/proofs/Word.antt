@@ -19,11 +19,11 @@ use Rattle.records.specs.Records.{Pushes}
 use Rattle.records.specs.declared.Pushed.{Pushed}
 use Rattle.records.specs.declared.Pushed.the-variants.{Full, Done}
 use Rattle.tally.specs.Language.{M, Outcome, goes, stops, ran, if_then_else_, when, pointWidth, contactWidth, pointOf, contactOf, seenAt, look}
-use Rattle.tally.specs.Language.{test, pushPoint, pushContact}
+use Rattle.tally.specs.Language.{test, putPoint, pushPoint, pushContact}
 use Rattle.tally.specs.Contracts.{place, RunsBy, Runs, Looks, Searches, PushesIf, withRect, withSearch, withContacts, withPoints}
 use Rattle.tally.specs.Lists.{stay, pushed-grown, full-grown}
 use Rattle.tally.specs.declared.Tally.{Tally}
-use Rattle.tally.specs.declared.Push.the-variants.{Made as Put}
+use Rattle.tally.specs.declared.PointPush.the-variants.{Made as Put}
 
 -- ---- a test
 module _ {t : Tally} (s : BallState) {ok : Bool} (e : ok ≡ stateOk s) where
@@ -71,10 +71,10 @@ module _ {o : Oracle} {t : Tally} (x z : Float) {w : Look} {q : Rect} (h : did w
       (ends o (t .rect) (lookTree x z) (λ (w : Look). seenAt w l) h v refl)) refl lc lp
 
 -- ---- pushes
-module _ {t : Tally} {l m : List Float} (s : BallState) (f : Phase) {p : Pushed} (h : Pushes pointWidth (t .points) l (pointOf s f) p m) where
+module _ {t : Tally} {l m : List Float} (s : BallState) (f : Phase) (y : Float) {p : Pushed} (h : Pushes pointWidth (t .points) l (pointOf s f y) p m) where
   pub point-pushed : {n : ℕ} {t' : Tally} → length m ≡ length l → p ≡ Done n → t' ≡ withPoints t n → (o : Oracle) (lc : List Float)
-      → Runs o (pushPoint s f) 0 (place t lc l) (goes tt) (place t' lc m)
-  unfolding pushPoint exec
+      → Runs o (putPoint s f y) 0 (place t lc l) (goes tt) (place t' lc m)
+  unfolding putPoint exec
   point-pushed n v e o lc = rw e (record {
     same = rw (← h .same, v, n);
     count = omega arith;
@@ -83,8 +83,8 @@ module _ {t : Tally} {l m : List Float} (s : BallState) (f : Phase) {p : Pushed}
     points = pushed-grown _ _ _ _ _ n (rw v at (h .kept));
   })
 
-  pub no-point : p ≡ Full → (o : Oracle) (lc : List Float) → Runs o (pushPoint s f) 0 (place t lc l) (stops 21) (place t lc m)
-  unfolding pushPoint exec
+  pub no-point : p ≡ Full → (o : Oracle) (lc : List Float) → Runs o (putPoint s f y) 0 (place t lc l) (stops 21) (place t lc m)
+  unfolding putPoint exec
   no-point v o lc = let k : m ≡ l = rw v at (h .kept) in record
       { same = rw (← h .same, v, k); count = omega arith; work = omega arith; contacts = stay _ _ _; points = full-grown _ _ _ _ k }
 
@@ -107,6 +107,6 @@ module _ {t : Tally} {l m : List Float} (a : BallState) (s : GroundSample) (b : 
       { same = rw (← h .same, v, k); count = omega arith; work = omega arith; contacts = full-grown _ _ _ _ k; points = stay _ _ _ }
 
 -- ---- no point is due
-pub not-due : (t : Tally) (l : List Float) (s : BallState) (f : Phase) → PushesIf false t l s f (Put t) l
+pub not-due : (o : Oracle) (t : Tally) (l : List Float) (s : BallState) (f : Phase) → PushesIf o false t l s f (Put t) l
 unfolding when exec
-not-due t l s f o lc = record { same = refl; count = omega arith; work = omega arith; contacts = stay _ _ _; points = stay _ _ _ }
+not-due o t l s f lc = record { same = refl; count = omega arith; work = omega arith; contacts = stay _ _ _; points = stay _ _ _ }

@@ -22,6 +22,8 @@ use Rattle.tally.specs.declared.Tested.{Tested}
 use Rattle.tally.specs.declared.Tested.the-variants.{Bad, Good}
 use Rattle.tally.specs.declared.Push.{Push}
 use Rattle.tally.specs.declared.Push.the-variants.{Full, Made as Pushed}
+use Rattle.tally.specs.declared.PointPush.{PointPush}
+use Rattle.tally.specs.declared.PointPush.the-variants.{Ended, Made as Pointed}
 
 -- ---- tallies
 
@@ -151,14 +153,23 @@ abbrev pub afterTest : Tally → Tested → Tally
 afterTest t Bad = t
 afterTest t (Good t') = t'
 
--- 20 or 21 where the list is full
-abbrev pub pushedBy : ℕ → Push → Outcome Unit
-pushedBy n Full = stops n
-pushedBy n (Pushed t') = goes tt
+-- 20 where the list is full
+abbrev pub pushedBy : Push → Outcome Unit
+pushedBy Full = stops 20
+pushedBy (Pushed t') = goes tt
 
 abbrev pub afterPush : Tally → Push → Tally
 afterPush t Full = t
 afterPush t (Pushed t') = t'
+
+-- a push of a point looks first, so it hands back its tally where it stops too: by 22 or 21
+abbrev pub pointedBy : PointPush → Outcome Unit
+pointedBy (Ended n t') = stops n
+pointedBy (Pointed t') = goes tt
+
+abbrev pub afterPoint : PointPush → Tally
+afterPoint (Ended n t') = t'
+afterPoint (Pointed t') = t'
 
 abbrev pub LooksAt : Oracle → Tally → Float → Float → Looked → Type 0
 LooksAt o t x z r = (lc lp : List Float) → Runs o (look x z) 0 (place t lc lp) (sawBy r) (place (afterLook t r) lc lp)
@@ -166,14 +177,14 @@ LooksAt o t x z r = (lc lp : List Float) → Runs o (look x z) 0 (place t lc lp)
 abbrev pub Tests : Tally → BallState → Tested → Type 0
 Tests t s r = (o : Oracle) (lc lp : List Float) → Runs o (test s) 0 (place t lc lp) (passedBy s r) (place (afterTest t r) lc lp)
 
-abbrev pub PushesPoint : Tally → List Float → BallState → Phase → Push → List Float → Type 0
-PushesPoint t l s f r m = (o : Oracle) (lc : List Float) → Runs o (pushPoint s f) 0 (place t lc l) (pushedBy 21 r) (place (afterPush t r) lc m)
+abbrev pub PushesPoint : Oracle → Tally → List Float → BallState → Phase → PointPush → List Float → Type 0
+PushesPoint o t l s f r m = (lc : List Float) → Runs o (pushPoint s f) 0 (place t lc l) (pointedBy r) (place (afterPoint r) lc m)
 
-abbrev pub PushesIf : Bool → Tally → List Float → BallState → Phase → Push → List Float → Type 0
-PushesIf due t l s f r m = (o : Oracle) (lc : List Float) → Runs o (when due (pushPoint s f)) 0 (place t lc l) (pushedBy 21 r) (place (afterPush t r) lc m)
+abbrev pub PushesIf : Oracle → Bool → Tally → List Float → BallState → Phase → PointPush → List Float → Type 0
+PushesIf o due t l s f r m = (lc : List Float) → Runs o (when due (pushPoint s f)) 0 (place t lc l) (pointedBy r) (place (afterPoint r) lc m)
 
 abbrev pub PushesContact : Tally → List Float → BallState → GroundSample → BallState → Push → List Float → Type 0
-PushesContact t l a s b r m = (o : Oracle) (lp : List Float) → Runs o (pushContact a s b) 0 (place t l lp) (pushedBy 20 r) (place (afterPush t r) m lp)
+PushesContact t l a s b r m = (o : Oracle) (lp : List Float) → Runs o (pushContact a s b) 0 (place t l lp) (pushedBy r) (place (afterPush t r) m lp)
 
 -- `truncate`, by the list: +0 from record n on, and n is counted
 pub record Truncates (t : Tally) (l : List Float) (n : ℕ) (t' : Tally) (m : List Float) : Type 0 where

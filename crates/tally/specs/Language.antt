@@ -5,7 +5,7 @@ use mathlib.Core.List.{List, [], _∷_}
 use lib.IntN.{pos}
 use lib.Ieee.{Float, ofInt, binary64}
 use lib.ListN.{length, take}
-use Rattle.number.specs.Ops.{dec}
+use Rattle.number.specs.Ops.{_⊖_, dec}
 use Rattle.state.specs.declared.BallState.{BallState}
 use Rattle.surface.specs.declared.GroundSample.{GroundSample}
 use Rattle.state.specs.declared.Phase.{Phase}
@@ -84,18 +84,18 @@ phaseNumber Hop = dec 0 1
 phaseNumber Slide = dec 1 1
 phaseNumber Roll = dec 2 1
 
--- the numbers of a point and of a contact. 01: "Points, 11"; "20 a record"
+-- the numbers of a point and of a contact. 02, paper 12: "number 8 now counts points by twelve"; 01: "20 a record"
 abbrev pub pointWidth : ℕ
-pointWidth = 11
+pointWidth = 12
 
 abbrev pub contactWidth : ℕ
 contactWidth = 20
 
--- 01: "Points, 11: time, pos, vel, spin, phase"
-abbrev pub pointOf : BallState → Phase → List Float
-pointOf s p =
+-- 01: "Points, 11: time, pos, vel, spin, phase"; 02, paper 12: "a twelfth number: y less the course height at its x and z"
+abbrev pub pointOf : BallState → Phase → Float → List Float
+pointOf s p height =
     s .time ∷ s .pos .x ∷ s .pos .y ∷ s .pos .z ∷ s .vel .x ∷ s .vel .y ∷ s .vel .z
-    ∷ s .spin .x ∷ s .spin .y ∷ s .spin .z ∷ phaseNumber p ∷ []
+    ∷ s .spin .x ∷ s .spin .y ∷ s .spin .z ∷ phaseNumber p ∷ (s .pos .y ⊖ height) ∷ []
 
 -- 01: "20 a record: time, pos, normal, surface number, vel_in, vel_out, spin_in, spin_out"; ground.rs, Contact::new
 abbrev pub contactOf : BallState → GroundSample → BallState → List Float
@@ -173,9 +173,15 @@ evaluate f x = do
 unfoldable pub test : BallState → M BallState
 test s l = if stateOk s then pure s (tested s l) else stopWith 22 l
 
--- push of a point
+-- push of a point, where the course has that height
+unfoldable pub putPoint : BallState → Phase → Float → M Unit
+putPoint s p height l = point (pushed (l .points .room) (l .points .records) (pointOf s p height)) l
+
+-- push of a point, its look first. 02, paper 12: "That look counts in the rectangle, and its spot is tested as any look is, before the push"
 unfoldable pub pushPoint : BallState → Phase → M Unit
-pushPoint s p l = point (pushed (l .points .room) (l .points .records) (pointOf s p)) l
+pushPoint s p = do
+  ground ← look s.pos.x s.pos.z
+  putPoint s p ground.height
 
 -- push of a contact: the state that arrives, the sample, the state that leaves
 unfoldable pub pushContact : BallState → GroundSample → BallState → M Unit

@@ -18,7 +18,7 @@ use Rattle.records.specs.Records.{Records, pushed}
 use Rattle.state.specs.State.{stateOk}
 use Rattle.tally.specs.Language.{M, Lent, Log, Outcome, goes, stops, Ran, onward, _>>=_, if_then_else_, pointOf, contactOf}
 use Rattle.tally.specs.Language.{stepped, evaluated, countEvaluation, tested, withPoints, withContacts, seenAt, point, contact, Pass, again, over}
-use Rattle.tally.specs.Language.{pure, stopWith, when, look, test, pushPoint, pushContact, mark, truncate, makeStep, stepsLeft, loop}
+use Rattle.tally.specs.Language.{pure, stopWith, when, look, test, putPoint, pushPoint, pushContact, mark, truncate, makeStep, stepsLeft, loop}
 use Rattle.tally.specs.declared.Conditions.{Conditions}
 
 -- ---- what a run has behind it
@@ -50,8 +50,8 @@ missedAt p w = past (w .log) (w .made) (w .spots) (w .off ++ (p ∷ []))
 abbrev pub passedBy : BallState → Past → Past
 passedBy s w = withLog (tested s (w .log)) w
 
-abbrev pub pointed : BallState → Phase → Past → Past
-pointed s f w = withLog (withPoints (w .log .points .records ++ (pointOf s f ∷ [])) (w .log)) w
+abbrev pub pointed : BallState → Phase → Float → Past → Past
+pointed s f h w = withLog (withPoints (w .log .points .records ++ (pointOf s f h ∷ [])) (w .log)) w
 
 abbrev pub touched : BallState → GroundSample → BallState → Past → Past
 touched a s b w = withLog (withContacts (w .log .contacts .records ++ (contactOf a s b ∷ [])) (w .log)) w
@@ -241,12 +241,12 @@ module _ {o : Oracle} where
         go w p true e = rw e (f w p e)
         go w p false e = rw e (g w p e)
 
-    pub t-point : {Q : Unit → Past → Type 0} (s : BallState) (f : Phase) → ((w : Past) → P w → HasRoom (w .log .points) → Q tt (pointed s f w))
-        → ((w : Past) → P w → IsFull (w .log .points) → R 21 w) → Triple o P (pushPoint s f) Q R
-    unfolding pushPoint pushed reach
-    t-point {Q} s f g h = record { all = λ w p. go w p (ltb (length (w .log .points .records)) (w .log .points .room)) refl }
+    pub t-put : {Q : Unit → Past → Type 0} (s : BallState) (f : Phase) (y : Float) → ((w : Past) → P w → HasRoom (w .log .points) → Q tt (pointed s f y w))
+        → ((w : Past) → P w → IsFull (w .log .points) → R 21 w) → Triple o P (putPoint s f y) Q R
+    unfolding putPoint pushed reach
+    t-put {Q} s f y g h = record { all = λ w p. go w p (ltb (length (w .log .points .records)) (w .log .points .room)) refl }
       where
-        go : (w : Past) → P w → (b : Bool) → ltb (length (w .log .points .records)) (w .log .points .room) ≡ b → Left Q R (reaches o (pushPoint s f) w)
+        go : (w : Past) → P w → (b : Bool) → ltb (length (w .log .points .records)) (w .log .points .room) ≡ b → Left Q R (reaches o (putPoint s f y) w)
         go w p true e = rw e (g w p (ltb-true (length (w .log .points .records)) (w .log .points .room) e))
         go w p false e = rw e (h w p (ltb-false (length (w .log .points .records)) (w .log .points .room) e))
 
@@ -291,6 +291,16 @@ module _ {o : Oracle} where
     pub t-when : {Q : Unit → Past → Type 0} {m : M Unit} (b : Bool) → Triple o P m Q R → ((w : Past) → P w → Q tt w) → Triple o P (when b m) Q R
     unfolding when
     t-when b t f = t-if b (λ _. t) (λ _. t-pure f)
+
+  -- a push of a point: its look, then the push
+  pub t-point : {P : Past → Type 0} {R : ℕ → Past → Type 0} {Q : Unit → Past → Type 0} (s : BallState) (f : Phase) → let x = s .pos .x in let z = s .pos .z in
+      ((w : Past) → P w → spotOk x z ≡ true → HasRoom (w .log .points) → Q tt (pointed s f (o x z .height) (sawAt (spot x z) w)))
+      → ((w : Past) → P w → spotOk x z ≡ true → IsFull (w .log .points) → R 21 (sawAt (spot x z) w))
+      → ((w : Past) → P w → spotOk x z ≡ false → R 22 (missedAt (spot x z) w)) → Triple o P (pushPoint s f) Q R
+  unfolding pushPoint
+  t-point {R} {Q} s f g h k =
+      t-bind {Q = λ y w. (HasRoom (w .log .points) → Q tt (pointed s f (y .height) w)) × (IsFull (w .log .points) → R 21 w)}
+      (t-look (s .pos .x) (s .pos .z) (λ w p e. (g w p e, h w p e)) k) (λ y. t-put s f (y .height) (λ w p i. p .0 i) (λ w p i. p .1 i))
 
   -- nothing is asked, and nothing said
   pub t-any : {A : Type 0} {P : Past → Type 0} (m : M A) → Triple o P m (λ _ _. Unit {0}) (λ _ _. Unit {0})

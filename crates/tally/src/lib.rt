@@ -23,7 +23,7 @@ const TIME_EPS: f64 = 1e-9;
 const SAMPLE_INTERVAL: f64 = 0.01;
 
 // The numbers of a point.
-pub const POINT_WIDTH: usize = 11;
+pub const POINT_WIDTH: usize = 12;
 
 // The numbers of a contact.
 pub const CONTACT_WIDTH: usize = 20;
@@ -186,9 +186,15 @@ pub fn test(t: Tally, s: BallState) -> Tested
 
 // ---- pushes
 
-// The list was full, 20 or 21; or the record is pushed.
+// The list was full, 20; or the contact is pushed.
 pub enum Push {
     Full,
+    Made(Tally),
+}
+
+// A point: its spot failed the test, 22, or the list was full, 21; or it is pushed.
+pub enum PointPush {
+    Ended(u32, Tally),
     Made(Tally),
 }
 
@@ -222,6 +228,21 @@ fn with_points(t: Tally, n: usize) -> Tally
     }
 }
 
+// The tally after a point: its look's rectangle and the new count, in one copy.
+fn with_point(t: Tally, rect: Rect, n: usize) -> Tally
+    ensures { λ r. ⌜ r ≡ withPoints (withRect t rect) n ⌝ }
+{
+    let good = t.good;
+    Tally {
+        steps: t.steps,
+        evaluations: t.evaluations,
+        contacts: t.contacts,
+        points: n,
+        good,
+        rect,
+    }
+}
+
 fn phase_number(phase: Phase) -> f64
     ensures { λ r. ⌜ r ≡ phaseNumber phase ⌝ }
 {
@@ -232,35 +253,74 @@ fn phase_number(phase: Phase) -> f64
     }
 }
 
-fn write_point(points: &mut [f64], n: usize, s: BallState, phase: Phase) -> Pushed
-    ensures { λ r. ⌜ Pushes pointWidth n (now (points .entry)) (pointOf s phase) r (now (points .exit)) ⌝ }
+fn write_point(points: &mut [f64], n: usize, s: BallState, phase: Phase, height: f64) -> Pushed
+    ensures { λ r. ⌜ Pushes pointWidth n (now (points .entry)) (pointOf s phase height) r (now (points .exit)) ⌝ }
 {
     let p = s.pos;
     let v = s.vel;
     let w = s.spin;
     let number = phase_number(phase);
-    let rec = [s.time, p.x, p.y, p.z, v.x, v.y, v.z, w.x, w.y, w.z, number];
+    let rec = [
+        s.time,
+        p.x,
+        p.y,
+        p.z,
+        v.x,
+        v.y,
+        v.z,
+        w.x,
+        w.y,
+        w.z,
+        number,
+        p.y - height,
+    ];
     records::push(points, n, &rec)
 }
 
-pub fn push_point(points: &mut [f64], t: Tally, s: BallState, phase: Phase) -> Push
-    ensures { λ r. ⌜ PushesPoint t (now (points .entry)) s phase r (now (points .exit)) ⌝ }
+// Looks at the state's spot, then pushes.
+pub fn push_point(
+    sheet: &[u8],
+    index: &[u64],
+    points: &mut [f64],
+    t: Tally,
+    s: BallState,
+    phase: Phase,
+) -> PointPush
+    requires { ⌜ Ready (now sheet) (now index) ⌝ }
+    ensures { λ r. ⌜ PushesPoint (courseOf (now (sheet .entry))) t (now (points .entry)) s phase r (now (points .exit)) ⌝ }
 {
-    let pushed = write_point(points, t.points, s, phase);
+    let pos = s.pos;
+    let rect = t.rect;
+    let seen = course::look_at(sheet, index, rect, pos.x, pos.z);
+    let wider = seen.rect;
+    let what = seen.what;
+    let Look::Saw(under) = what else {
+        return PointPush::Ended(22, t);
+    };
+    let pushed = write_point(points, t.points, s, phase, under.height);
     match pushed {
-        Pushed::Full => Push::Full,
-        Pushed::Done(n) => Push::Made(with_points(t, n)),
+        Pushed::Full => PointPush::Ended(21, with_rect(t, wider)),
+        Pushed::Done(n) => PointPush::Made(with_point(t, wider, n)),
     }
 }
 
 // A point, if it is due.
-pub fn push_due(due: bool, points: &mut [f64], t: Tally, s: BallState, phase: Phase) -> Push
-    ensures { λ r. ⌜ PushesIf due t (now (points .entry)) s phase r (now (points .exit)) ⌝ }
+pub fn push_due(
+    due: bool,
+    sheet: &[u8],
+    index: &[u64],
+    points: &mut [f64],
+    t: Tally,
+    s: BallState,
+    phase: Phase,
+) -> PointPush
+    requires { ⌜ Ready (now sheet) (now index) ⌝ }
+    ensures { λ r. ⌜ PushesIf (courseOf (now (sheet .entry))) due t (now (points .entry)) s phase r (now (points .exit)) ⌝ }
 {
     if due {
-        push_point(points, t, s, phase)
+        push_point(sheet, index, points, t, s, phase)
     } else {
-        Push::Made(t)
+        PointPush::Made(t)
     }
 }
 

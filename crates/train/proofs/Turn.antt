@@ -107,9 +107,9 @@ module _ {o : Oracle} {w : M Ending} {p₀ : Place} (c : Conditions) (state : Ba
 
   module _ (k : ℕ) (hit : Struck) (hops : Bool) (here : At o w p₀ (bodyOf c state hops (c .physics .«max_impacts» - (k + 1)) hit) (place t mc mp)) where
     -- the last impact that max_impacts allows
-    pub ends-last : (x : RunOut) {mc' mp' : List Float} → isLast hops k (c .physics .«max_impacts») ≡ true → LastImpacts state hit t mc mp x mc' mp'
+    pub ends-last : (x : RunOut) {mc' mp' : List Float} → isLast hops k (c .physics .«max_impacts») ≡ true → LastImpacts o state hit t mc mp x mc' mp'
         → RunsOn o w p₀ (endedBy x) (place (afterRun x) mc' mp')
-    ends-last x v h = on (last (rw (last-is c state hops hit k _ v) at here) (h o))
+    ends-last x v h = on (last (rw (last-is c state hops hit k _ v) at here) h)
 
     -- any other
     module _ (v : isLast hops k (c .physics .«max_impacts») ≡ false) where
@@ -151,6 +151,6 @@ module _ {o : Oracle} {w : M Ending} {p₀ : Place} (c : Conditions) {t : Tally}
   pub arrived : {b : BallState} → way ≡ Arrived b → At o w p₀ (trainFrom c n b) (place t mc mp)
   arrived v = rw v at here
 
-  pub ends-late : (x : RunOut) {b : BallState} {mp' : List Float} → way ≡ Late b → TimesUp b InHop t mp x mp'
+  pub ends-late : (x : RunOut) {b : BallState} {mp' : List Float} → way ≡ Late b → TimesUp o b InHop t mp x mp'
       → RunsOn o w p₀ (endedBy x) (place (afterRun x) mc mp')
-  ends-late x v h = on (last (rw v at here) (h o mc))
+  ends-late x v h = on (last (rw v at here) (h mc))

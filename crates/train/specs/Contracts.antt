@@ -14,9 +14,9 @@ use Rattle.ground_phase.specs.declared.RunOut.{RunOut}
 use Rattle.strike.specs.declared.Struck.{Struck}
 use Rattle.train.specs.Train.{lastImpact, train}
 
--- on every course, since no look is made
-abbrev pub LastImpacts : BallState → Struck → Tally → List Float → List Float → RunOut → List Float → List Float → Type 0
-LastImpacts state hit t lc lp r mc mp = (o : Oracle) → Runs o (lastImpact state hit) 0 (place t lc lp) (endedBy r) (place (afterRun r) mc mp)
+-- the last impact: its contact, then its point
+abbrev pub LastImpacts : Oracle → BallState → Struck → Tally → List Float → List Float → RunOut → List Float → List Float → Type 0
+LastImpacts o state hit t lc lp r mc mp = Runs o (lastImpact state hit) 0 (place t lc lp) (endedBy r) (place (afterRun r) mc mp)
 
 -- the whole run, from a landing
 abbrev pub TrainRuns : Oracle → Conditions → BallState → List Float → List Float → RunOut → List Float → List Float → Type 0

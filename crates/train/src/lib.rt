@@ -17,6 +17,7 @@ use strike::FlyEnd;
 use strike::StrikeEnd;
 use strike::Struck;
 use tally::Conditions;
+use tally::PointPush;
 use tally::Push;
 use tally::Tally;
 
@@ -34,21 +35,28 @@ fn is_last(hops: bool, n: usize, max_impacts: u64) -> bool
 
 // The last impact that max_impacts allows: its contact and its point.
 fn last_impact(
+    sheet: &[u8],
+    index: &[u64],
     contacts: &mut [f64],
     points: &mut [f64],
     state: BallState,
     hit: Struck,
     t: Tally,
 ) -> RunOut
-    ensures { λ r. ⌜ LastImpacts state hit t (now (contacts .entry)) (now (points .entry)) r (now (contacts .exit)) (now (points .exit)) ⌝ }
+    requires { ⌜ Ready (now sheet) (now index) ⌝ }
+    ensures { λ r. ⌜ LastImpacts (courseOf (now (sheet .entry))) state hit t (now (contacts .entry)) (now (points .entry)) r (now (contacts .exit)) (now (points .exit)) ⌝ }
 {
     let at = hit.at;
     let out = hit.out;
     let Push::Made(t1) = tally::push_contact(contacts, t, state, at, out) else {
         return RunOut::Ended(20, t);
     };
-    let Push::Made(t2) = tally::push_point(points, t1, out, Phase::Hop) else {
-        return RunOut::Ended(21, t1);
+    let pushed = tally::push_point(sheet, index, points, t1, out, Phase::Hop);
+    let t2 = match pushed {
+        PointPush::Ended(a, after) => {
+            return RunOut::Ended(a, after);
+        }
+        PointPush::Made(after) => after,
     };
     let end = Ending {
         how: Termination::MaxImpacts,
@@ -83,7 +91,7 @@ pub fn run(
         };
         let hops = strike::rebounds(c, hit);
         if is_last(hops, t.contacts, max_impacts) {
-            return last_impact(contacts, points, state, hit, t1);
+            return last_impact(sheet, index, contacts, points, state, hit, t1);
         }
         let flight = strike::fly(sheet, index, points, c, hops, state, hit, t1);
         let t2 = flight.tally;
@@ -121,7 +129,7 @@ pub fn run(
                 state = b;
             }
             Way::Late(b) => {
-                return ground_phase::time_up(points, t3, b, Phase::Hop);
+                return ground_phase::time_up(sheet, index, points, t3, b, Phase::Hop);
             }
         }
     };

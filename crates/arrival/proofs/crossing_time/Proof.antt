@@ -41,10 +41,12 @@ unfolding crossingTime
 returns-2 c =
     let at-look-at = c .before .before .before in
     let at-what = at-look-at .before .before .before .before in
-    let at-end-value = at-what .before .before .before in
-    (unsearched _ _ _ (λ l.
-    went _ _ _ _ l (at-end-value .end-value .ensures l) (ap valueBy (at-what .what .given .1))
-    (look-off _ _ _ _ _ _ (rw (at-look-at .before .before .arc-at .ensures) at (at-look-at .look-at .ensures)) (c .enum-told2 .given .1))), omega arith)
+    let at-end-value = at-what .before .before .before in (
+      unsearched _ _ _ (λ l.
+          went _ _ _ _ l (at-end-value .end-value .ensures l) (ap valueBy (at-what .what .given .1))
+          (look-off _ _ _ _ _ _ (rw (at-look-at .before .before .arc-at .ensures) at (at-look-at .look-at .ensures)) (c .enum-told2 .given .1))),
+      omega arith,
+    )
 
 find-root-requires : tie.Need-find-root-requires
 find-root-requires c κs =
@@ -59,11 +61,13 @@ returns-3 c =
     let at-under = c .before .before .before .before in
     let at-look-at = at-under .before .before .before in
     let at-what = at-look-at .before .before .before .before in
-    let at-end-value = at-what .before .before .before in
-    (λ l.
-    went _ _ _ _ l (at-end-value .end-value .ensures l) (ap valueBy (at-what .what .given .1))
-    (look-saw _ _ _ _ _ _ (rw (at-look-at .before .before .arc-at .ensures) at (at-look-at .look-at .ensures)) (at-under .under .given .1)
-    (rw (← c .before .before .ending-at .ensures, ← c .before .guess-in .ensures) (c .find-root .ensures .0 l))), c .find-root .ensures .1)
+    let at-end-value = at-what .before .before .before in (
+      λ l.
+          went _ _ _ _ l (at-end-value .end-value .ensures l) (ap valueBy (at-what .what .given .1))
+          (look-saw _ _ _ _ _ _ (rw (at-look-at .before .before .arc-at .ensures) at (at-look-at .look-at .ensures)) (at-under .under .given .1)
+          (rw (← c .before .before .ending-at .ensures, ← c .before .guess-in .ensures) (c .find-root .ensures .0 l))),
+      c .find-root .ensures .1,
+    )
 
 pub crossing-time-spec : {M : Type 1} → statement M
 crossing-time-spec =

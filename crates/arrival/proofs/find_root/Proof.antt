@@ -42,10 +42,12 @@ unfolding findRoot
 returns c =
     let at-clearance-at = c .before .before .before in
     let at-in-bracket = at-clearance-at .before in
-    let at-loop-test = at-in-bracket .before in
-    (rw (← at-loop-test .before .before .start-search .ensures) (λ l.
-    root-off _ _ _ _ l _ (at-loop-test .loop-test .taken) (rw (at-in-bracket .in-bracket .ensures) at (at-clearance-at .clearance-at .ensures))
-    (ap valueBy (c .enum-told .given .1)) ∙ at-loop-test .before .loop .inv .1 l), omega (arith, at-loop-test .loop-test .taken))
+    let at-loop-test = at-in-bracket .before in (
+      rw (← at-loop-test .before .before .start-search .ensures) (λ l.
+          root-off _ _ _ _ l _ (at-loop-test .loop-test .taken) (rw (at-in-bracket .in-bracket .ensures) at (at-clearance-at .clearance-at .ensures))
+          (ap valueBy (c .enum-told .given .1)) ∙ at-loop-test .before .loop .inv .1 l),
+      omega (arith, at-loop-test .loop-test .taken),
+    )
 
 enum-known-step : tie.Need-enum-known-step Inv-loop μ-loop
 enum-known-step c = search needs
@@ -56,12 +58,13 @@ returns-2 c =
     let at-narrow = c .before .before .before in
     let at-clearance-at = at-narrow .before .before .before .before .before in
     let at-in-bracket = at-clearance-at .before in
-    let at-loop-test = at-in-bracket .before in
-    (rw (← at-loop-test .before .before .start-search .ensures) (λ l.
-    root-on _ _ _ _ l _ (at-loop-test .loop-test .taken) (rw (at-in-bracket .in-bracket .ensures) at (at-clearance-at .clearance-at .ensures))
-    (ap valueBy (at-narrow .before .before .what .given .1))
-    (rw (← at-in-bracket .in-bracket .ensures, ← at-narrow .narrow .ensures, c .before .step .given .1)) ∙ at-loop-test .before .loop .inv .1 l),
-    omega (arith, at-loop-test .loop-test .taken))
+    let at-loop-test = at-in-bracket .before in (
+      rw (← at-loop-test .before .before .start-search .ensures) (λ l.
+          root-on _ _ _ _ l _ (at-loop-test .loop-test .taken) (rw (at-in-bracket .in-bracket .ensures) at (at-clearance-at .clearance-at .ensures))
+          (ap valueBy (at-narrow .before .before .what .given .1))
+          (rw (← at-in-bracket .in-bracket .ensures, ← at-narrow .narrow .ensures, c .before .step .given .1)) ∙ at-loop-test .before .loop .inv .1 l),
+      omega (arith, at-loop-test .loop-test .taken),
+    )
 
 enum-known-step-2 : tie.Need-enum-known-step-2 Inv-loop μ-loop
 enum-known-step-2 c = search needs
@@ -77,18 +80,22 @@ loop-again c =
     let at-narrow = c .before .before .before in
     let at-clearance-at = at-narrow .before .before .before .before .before in
     let at-in-bracket = at-clearance-at .before in
-    let at-loop-test = at-in-bracket .before in
-    (omega (arith, at-loop-test .loop-test .taken), λ l.
-    root-on _ _ _ _ l _ (at-loop-test .loop-test .taken) (rw (at-in-bracket .in-bracket .ensures) at (at-clearance-at .clearance-at .ensures))
-    (ap valueBy (at-narrow .before .before .what .given .1))
-    (rw (← at-in-bracket .in-bracket .ensures, ← at-narrow .narrow .ensures, c .before .step2 .given .1)) ∙ at-loop-test .before .loop .inv .1 l)
+    let at-loop-test = at-in-bracket .before in (
+      omega (arith, at-loop-test .loop-test .taken),
+      λ l.
+          root-on _ _ _ _ l _ (at-loop-test .loop-test .taken) (rw (at-in-bracket .in-bracket .ensures) at (at-clearance-at .clearance-at .ensures))
+          (ap valueBy (at-narrow .before .before .what .given .1))
+          (rw (← at-in-bracket .in-bracket .ensures, ← at-narrow .narrow .ensures, c .before .step2 .given .1)) ∙ at-loop-test .before .loop .inv .1 l,
+    )
 
 returns-3 : tie.Need-returns-3 Inv-loop μ-loop
 unfolding findRoot
 returns-3 c =
-    let at-start-search = c .before .before .before in
-    (rw (← at-start-search .start-search .ensures) (λ l.
-    root-out _ _ _ _ l _ (c .before .loop-test .left) ∙ c .before .before .loop .inv .1 l), c .before .before .loop .inv .0)
+    let at-start-search = c .before .before .before in (
+      rw (← at-start-search .start-search .ensures) (λ l.
+          root-out _ _ _ _ l _ (c .before .loop-test .left) ∙ c .before .before .loop .inv .1 l),
+      c .before .before .loop .inv .0,
+    )
 
 pub find-root-spec : {M : Type 1} → statement M
 find-root-spec =

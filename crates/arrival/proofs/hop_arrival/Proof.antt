@@ -58,11 +58,13 @@ unfolding hopArrival ofBits round
 returns-2 c =
     let at-crossing-time = c .before .before .before in
     let at-first-crossing = at-crossing-time .before .before .before .before .before in
-    let at-clearance-at = at-first-crossing .before .before .before .before .before in
-    (λ l.
-    went _ _ _ _ l (at-clearance-at .clearance-at .ensures l) (ap valueBy (at-first-crossing .before .before .what .given .1))
-    (went _ _ _ _ l (at-first-crossing .first-crossing .ensures l) (ap crossingBy (at-crossing-time .before .before .how .given .1))
-    (halted _ _ _ _ l (at-crossing-time .crossing-time .ensures .0 l) (ap valueBy (c .enum-told4 .given .1)))), at-crossing-time .crossing-time .ensures .1)
+    let at-clearance-at = at-first-crossing .before .before .before .before .before in (
+      λ l.
+          went _ _ _ _ l (at-clearance-at .clearance-at .ensures l) (ap valueBy (at-first-crossing .before .before .what .given .1))
+          (went _ _ _ _ l (at-first-crossing .first-crossing .ensures l) (ap crossingBy (at-crossing-time .before .before .how .given .1))
+          (halted _ _ _ _ l (at-crossing-time .crossing-time .ensures .0 l) (ap valueBy (c .enum-told4 .given .1)))),
+      at-crossing-time .crossing-time .ensures .1,
+    )
 
 look-at-requires : tie.Need-look-at-requires
 look-at-requires c κs =
@@ -85,31 +87,36 @@ returns-3 c =
     let at-time = at-look-at .before .before .before .before in
     let at-crossing-time = at-time .before .before .before in
     let at-first-crossing = at-crossing-time .before .before .before .before .before in
-    let at-clearance-at = at-first-crossing .before .before .before .before .before in
-    (λ l.
-    went _ _ _ _ l (at-clearance-at .clearance-at .ensures l) (ap valueBy (at-first-crossing .before .before .what .given .1))
-    (went _ _ _ _ l (at-first-crossing .first-crossing .ensures l) (ap crossingBy (at-crossing-time .before .before .how .given .1))
-    (went _ _ _ _ l (at-crossing-time .crossing-time .ensures .0 l) (ap valueBy (at-time .time .given .1))
-    (look-off _ _ _ _ _ _ (rw (at-look-at .before .before .arc-at .ensures) at (at-look-at .look-at .ensures)) (c .enum-told5 .given .1)))),
-    at-crossing-time .crossing-time .ensures .1)
+    let at-clearance-at = at-first-crossing .before .before .before .before .before in (
+      λ l.
+          went _ _ _ _ l (at-clearance-at .clearance-at .ensures l) (ap valueBy (at-first-crossing .before .before .what .given .1))
+          (went _ _ _ _ l (at-first-crossing .first-crossing .ensures l) (ap crossingBy (at-crossing-time .before .before .how .given .1))
+          (went _ _ _ _ l (at-crossing-time .crossing-time .ensures .0 l) (ap valueBy (at-time .time .given .1))
+          (look-off _ _ _ _ _ _ (rw (at-look-at .before .before .arc-at .ensures) at (at-look-at .look-at .ensures)) (c .enum-told5 .given .1)))),
+      at-crossing-time .crossing-time .ensures .1,
+    )
 
 returns-4 : tie.Need-returns-4
 unfolding hopArrival ofBits round
 returns-4 c =
     let at-first-crossing = c .before .before .before in
-    let at-clearance-at = at-first-crossing .before .before .before .before .before in
-    (unsearched _ _ _ (λ l.
-    went _ _ _ _ l (at-clearance-at .clearance-at .ensures l) (ap valueBy (at-first-crossing .before .before .what .given .1))
-    (halted _ _ _ _ l (at-first-crossing .first-crossing .ensures l) (ap crossingBy (c .enum-told2 .given .1)))), omega arith)
+    let at-clearance-at = at-first-crossing .before .before .before .before .before in (
+      unsearched _ _ _ (λ l.
+          went _ _ _ _ l (at-clearance-at .clearance-at .ensures l) (ap valueBy (at-first-crossing .before .before .what .given .1))
+          (halted _ _ _ _ l (at-first-crossing .first-crossing .ensures l) (ap crossingBy (c .enum-told2 .given .1)))),
+      omega arith,
+    )
 
 returns-5 : tie.Need-returns-5
 unfolding hopArrival ofBits round
 returns-5 c =
     let at-first-crossing = c .before .before .before in
-    let at-clearance-at = at-first-crossing .before .before .before .before .before in
-    (unsearched _ _ _ (λ l.
-    went _ _ _ _ l (at-clearance-at .clearance-at .ensures l) (ap valueBy (at-first-crossing .before .before .what .given .1))
-    (went _ _ _ _ l (at-first-crossing .first-crossing .ensures l) (ap crossingBy (c .enum-told3 .given .1)) (ends-pure _ _ _ l))), omega arith)
+    let at-clearance-at = at-first-crossing .before .before .before .before .before in (
+      unsearched _ _ _ (λ l.
+          went _ _ _ _ l (at-clearance-at .clearance-at .ensures l) (ap valueBy (at-first-crossing .before .before .what .given .1))
+          (went _ _ _ _ l (at-first-crossing .first-crossing .ensures l) (ap crossingBy (c .enum-told3 .given .1)) (ends-pure _ _ _ l))),
+      omega arith,
+    )
 
 returns-6 : tie.Need-returns-6
 unfolding hopArrival ofBits round exec
@@ -118,13 +125,15 @@ returns-6 c =
     let at-time = at-look-at .before .before .before .before in
     let at-crossing-time = at-time .before .before .before in
     let at-first-crossing = at-crossing-time .before .before .before .before .before in
-    let at-clearance-at = at-first-crossing .before .before .before .before .before in
-    (λ l.
-    went _ _ _ _ l (at-clearance-at .clearance-at .ensures l) (ap valueBy (at-first-crossing .before .before .what .given .1))
-    (went _ _ _ _ l (at-first-crossing .first-crossing .ensures l) (ap crossingBy (at-crossing-time .before .before .how .given .1))
-    (went _ _ _ _ l (at-crossing-time .crossing-time .ensures .0 l) (ap valueBy (at-time .time .given .1))
-    (look-saw _ _ _ _ _ _ (rw (at-look-at .before .before .arc-at .ensures) at (at-look-at .look-at .ensures)) (c .before .before .under .given .1)
-    (rw (c .place .ensures, at-look-at .before .before .arc-at .ensures))))), at-crossing-time .crossing-time .ensures .1)
+    let at-clearance-at = at-first-crossing .before .before .before .before .before in (
+      λ l.
+          went _ _ _ _ l (at-clearance-at .clearance-at .ensures l) (ap valueBy (at-first-crossing .before .before .what .given .1))
+          (went _ _ _ _ l (at-first-crossing .first-crossing .ensures l) (ap crossingBy (at-crossing-time .before .before .how .given .1))
+          (went _ _ _ _ l (at-crossing-time .crossing-time .ensures .0 l) (ap valueBy (at-time .time .given .1))
+          (look-saw _ _ _ _ _ _ (rw (at-look-at .before .before .arc-at .ensures) at (at-look-at .look-at .ensures)) (c .before .before .under .given .1)
+          (rw (c .place .ensures, at-look-at .before .before .arc-at .ensures))))),
+      at-crossing-time .crossing-time .ensures .1,
+    )
 
 pub hop-arrival-spec : {M : Type 1} → statement M
 hop-arrival-spec =

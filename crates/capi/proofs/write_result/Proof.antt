@@ -17,9 +17,17 @@ returns-2 c =
     let at-whole2 = at-whole5 .before .before .before in
     let at-whole = at-whole2 .before .before in
     let at-if1 = at-whole .before .before .before .before .before .before .before in
-    rw (le-leb 20 _ (at-if1 .if1 .left), c .before .before .put .ensures, at-whole .whole .ensures, at-whole2 .whole2 .ensures,
-    at-whole2 .before .termination-number .ensures, at-whole5 .before .before .whole3 .ensures, at-whole5 .before .whole4 .ensures, at-whole5 .whole5 .ensures,
-    at-whole6 .whole6 .ensures)
+    rw (
+      le-leb 20 _ (at-if1 .if1 .left),
+      c .before .before .put .ensures,
+      at-whole .whole .ensures,
+      at-whole2 .whole2 .ensures,
+      at-whole2 .before .termination-number .ensures,
+      at-whole5 .before .before .whole3 .ensures,
+      at-whole5 .before .whole4 .ensures,
+      at-whole5 .whole5 .ensures,
+      at-whole6 .whole6 .ensures,
+    )
 
 pub write-result-spec : {M : Type 1} → statement M
 write-result-spec =

@@ -27,11 +27,16 @@ abbrev μ-loop : tie.MeasureT-loop
 loop-holds : tie.Need-loop-holds Inv-loop μ-loop
 loop-holds c lc = starts _ _ _ _ _ _ _
 
+time-up-requires : tie.Need-time-up-requires Inv-loop μ-loop
+time-up-requires c κs =
+    let at-loop = c .before .before .before .before .before in
+    at-loop .before .before .before .before .pre .0
+
 same-length : tie.Need-same-length Inv-loop μ-loop
 same-length c =
     let at-is-late = c .before .before .before .before .before .before in
     let late = at-is-late in
-    c .before .before .time-up .kept .0 ∙ late .before .before .loop .inv [] .reached .points .long
+    c .before .before .time-up .kept .1 .1 .0 ∙ late .before .before .loop .inv [] .reached .points .long
 
 returns : tie.Need-returns Inv-loop μ-loop
 unfolding groundFrom
@@ -40,7 +45,7 @@ returns c lc =
     let late = at-is-late in
     let up = c .before .before in
     ends-late (late .before .before .loop .inv lc) (sym (late .is-late .ensures) ∙ up .before .before .before .if1 .taken)
-    (rw (← up .before .last-phase .ensures) (on (up .time-up .ensures _ lc)))
+    (rw (← up .before .last-phase .ensures) (on (up .time-up .ensures lc)))
 
 same-length-2 : tie.Need-same-length-2 Inv-loop μ-loop
 same-length-2 c =
@@ -129,7 +134,7 @@ ground-spec =
     loop-holds
     (λ c κs. tt)
     (λ c κs. tt)
-    (λ c κs. tt)
+    time-up-requires
     same-length
     returns
     same-length-2

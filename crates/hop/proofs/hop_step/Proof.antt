@@ -11,7 +11,7 @@ use Rattle.tally.specs.Language.{M, Pass}
 use Rattle.tally.specs.Contracts.{place, Reached}
 use Rattle.tally.specs.declared.Conditions.{Conditions}
 use Rattle.tally.specs.declared.Tally.{Tally}
-use Rattle.tally.proofs.Reached.{ended, state-good, state-bad, no-work-tested, due-pushed, due-full}
+use Rattle.tally.proofs.Reached.{ended, state-good, state-bad, no-work-tested, due-pushed, due-stopped}
 use Rattle.arrival.specs.declared.Arc.{Arc}
 use Rattle.arrival.proofs.Ways.{cleared, clear-off, no-work-cleared, arrived, none-arrived, arrive-off}
 use Rattle.hop.specs.Hop.{hopNext, hopStep}
@@ -60,8 +60,12 @@ came-step c lc = stepped _ _ _ (step c .step-arc .ensures) (c .before .count-ste
 none-yet : (c : tie.After-end) → let t = test (good (clear c)) in c .end .given .0 .1 .0 .evaluations ≤ start (step t) .args .t .evaluations
 none-yet c =
     let t = test (good (clear c)) in
-    omega (arith, no-work-cleared _ _ (clear c .clear .ensures) (c .end .given .1),
-    no-work-tested (courseOf (start (step t) .args .sheet .now)) _ (t .test .ensures) (good (clear c) .t2 .given .1), t .before .count-step .ensures .work)
+    omega (
+      arith,
+      no-work-cleared _ _ (clear c .clear .ensures) (c .end .given .1),
+      no-work-tested (courseOf (start (step t) .args .sheet .now)) _ (t .test .ensures) (good (clear c) .t2 .given .1),
+      t .before .count-step .ensures .work,
+    )
 
 -- so there is room for the 200 of a search
 room : (c : tie.After-end) → let t = test (good (clear c)) in c .end .given .0 .1 .0 .evaluations + 200 ≤ start (step t) .args .t .evaluations + 200 * 1
@@ -145,22 +149,26 @@ returns-3 c lc =
 enum-known-met-3 : tie.Need-enum-known-met-3
 enum-known-met-3 c = search needs
 
-enum-known-t5-2 : tie.Need-enum-known-t5-2
-enum-known-t5-2 c = search needs
+push-due-requires : tie.Need-push-due-requires
+push-due-requires c κs =
+    let a = c .before .before .before .before .before in
+    start (step (test (good (clear (end a))))) .pre .0
 
-enum-told-4 : tie.Need-enum-told-4
-enum-told-4 c = search needs
+enum-known-sampled : tie.Need-enum-known-sampled
+enum-known-sampled c = search needs
 
 same-length : tie.Need-same-length
 same-length c =
-    let at-push-due = c .before .before .before .before in
-    at-push-due .push-due .kept .1 .0
+    let at-push-due = c .before .before .before .before .before in
+    at-push-due .push-due .kept .1 .1 .1 .0
 
 returns-4 : tie.Need-returns-4
 returns-4 c lc =
-    let at-push-due = c .before .before .before .before in
-    let p = at-push-due in
-    ended (due-full _ _ _ _ (came-none p lc) (p .push-due .ensures) (c .enum-told4 .given .1))
+    let p = c .before .before .before .before .before in
+    ended (due-stopped _ _ _ _ (came-none p lc) (p .push-due .ensures) (c .before .sampled .given .1))
+
+enum-known-sampled-2 : tie.Need-enum-known-sampled-2
+enum-known-sampled-2 c = search needs
 
 returns-5 : tie.Need-returns-5
 returns-5 c lc =
@@ -180,13 +188,13 @@ returns-6 c lc =
 same-length-2 : tie.Need-same-length-2
 same-length-2 c =
     let at-push-due = c .before .before .before .before .before .before in
-    at-push-due .push-due .kept .1 .0
+    at-push-due .push-due .kept .1 .1 .1 .0
 
 returns-7 : tie.Need-returns-7
 returns-7 c lc =
     let at-push-due = c .before .before .before .before .before .before in
     let p = at-push-due in
-    rw (c .next-after .ensures) (ended (due-pushed _ _ _ _ (came-none p lc) (p .push-due .ensures) (c .before .before .t52 .given .1)))
+    rw (c .next-after .ensures) (ended (due-pushed _ _ _ _ (came-none p lc) (p .push-due .ensures) (c .before .before .sampled2 .given .1)))
 
 pub hop-step-spec : {M : Type 1} → statement M
 hop-step-spec =
@@ -212,11 +220,11 @@ hop-step-spec =
     returns-3
     enum-known-met-3
     (λ c κs. tt)
-    (λ c κs. tt)
-    enum-known-t5-2
-    enum-told-4
+    push-due-requires
+    enum-known-sampled
     same-length
     returns-4
+    enum-known-sampled-2
     (λ c κs. tt)
     returns-5
     returns-6

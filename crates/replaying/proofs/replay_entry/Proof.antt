@@ -29,10 +29,10 @@ module _ (e : List ℕ) (c p : ℕ) where
       → b ≡ outcome (replicate c (dec 1 1)) (replicate p (dec 1 1))
   lent rc rp i j t = t ∙ ap₂ outcome (take-replicate c rc _ i ∙ ap (replicate c) is-one) (take-replicate p rp _ j ∙ ap (replicate p) is-one)
 
-  replays : {b : Bool} → 200 ≤ length e → wholeAt e 0 ≡ length e - 200 → c ≡ wholeAt e 1 → p ≡ wholeAt e 2 → c ≤ 1300 → p ≤ 7051
+  replays : {b : Bool} → 200 ≤ length e → wholeAt e 0 ≡ length e - 200 → c ≡ wholeAt e 1 → p ≡ wholeAt e 2 → c ≤ 1300 → p ≤ 7692
       → b ≡ outcome (replicate c (dec 1 1)) (replicate p (dec 1 1)) → cond b Same Differs ≡ replayedOf e
   unfolding replayedOf intact
-  replays h z x y i j t = rw (le-leb 200 _ h, eq-eqb _ _ z, ← x, ← y, le-leb c 1300 i, le-leb p 7051 j, t)
+  replays h z x y i j t = rw (le-leb 200 _ h, eq-eqb _ _ z, ← x, ← y, le-leb c 1300 i, le-leb p 7692 j, t)
 
 returns : tie.Need-returns
 unfolding replayedOf intact
@@ -48,7 +48,7 @@ returns-3 c = rw (le-leb 200 _ (c .before .before .before .before .before .if1 .
 
 returns-4 : tie.Need-returns-4
 unfolding replayedOf intact
-returns-4 c = rw (le-leb 200 _ (c .before .before .before .before .before .before .if1 .left), ← c .before .before .before .before .before .word .ensures, eq-eqb _ _ (c .before .before .before .before .if2 .left), ← c .before .before .before .word2 .ensures, le-leb _ 1300 (c .before .if3 .left), ← c .before .before .word3 .ensures, lt-leb _ 7051 (c .if4 .taken))
+returns-4 c = rw (le-leb 200 _ (c .before .before .before .before .before .before .if1 .left), ← c .before .before .before .before .before .word .ensures, eq-eqb _ _ (c .before .before .before .before .if2 .left), ← c .before .before .before .word2 .ensures, le-leb _ 1300 (c .before .if3 .left), ← c .before .before .word3 .ensures, lt-leb _ 7692 (c .if4 .taken))
 
 slice-aggregate-gives-same : tie.Need-slice-aggregate-gives-same
 slice-aggregate-gives-same c = sym (length-take-le _ _ (search needs))
@@ -64,7 +64,7 @@ replayed g =
     let i = g .before .before .before .before .if3 .left in
     let j = g .before .before .before .if4 .left in
     replays e (c .result) (p .result) (g .before .before .before .before .before .before .before .before .before .if1 .left) (sym (g .before .before .before .before .before .before .before .before .word .ensures) ∙ g .before .before .before .before .before .before .before .if2 .left) (c .ensures) (p .ensures) i j
-    (lent e (c .result) (p .result) 1300 7051 i j (g .gives-same .ensures))
+    (lent e (c .result) (p .result) 1300 7692 i j (g .gives-same .ensures))
 
 returns-5 : tie.Need-returns-5
 returns-5 c = ap (λ (b : Bool). cond b Same Differs) (sym (c .if5 .taken)) ∙ replayed (c .before .before .before)

@@ -13,7 +13,7 @@ use Rattle.tally.specs.Language.{M, Pass}
 use Rattle.tally.specs.Contracts.{place, Reached}
 use Rattle.tally.specs.declared.Conditions.{Conditions}
 use Rattle.tally.specs.declared.Tally.{Tally}
-use Rattle.tally.proofs.Reached.{ended, spot-seen, spot-off, state-good, state-bad, due-pushed, due-full, point-pushed, points-full, not-left, not-taken}
+use Rattle.tally.proofs.Reached.{ended, spot-seen, spot-off, state-good, state-bad, due-pushed, due-stopped, point-pushed, point-stopped, not-left, not-taken}
 use Rattle.roll.specs.Roll.{groundStep}
 use Rattle.roll.specs.Evaluations.{pass-at-most-200}
 use Rattle.roll.specs.declared.Roll.{Roll}
@@ -30,10 +30,10 @@ start c = c .before .before .before .before .before
 abbrev step : tie.After-push-due → tie.After-step-on
 step c = c .before .before .before .before
 
-abbrev push : tie.After-t2 → tie.After-push-due
+abbrev push : tie.After-sampled2 → tie.After-push-due
 push c = c .before .before .before .before
 
-abbrev on-push : tie.After-look → tie.After-t2
+abbrev on-push : tie.After-look → tie.After-sampled2
 on-push c = c .before .before .before .before
 
 abbrev look : tie.After-under → tie.After-look
@@ -61,7 +61,7 @@ Came c rest t l =
     (rest (a .c) (a .g) (step c .step-on .result) (c .before .before .point-due .result)) (place t lc l)
 
 abbrev points : tie.After-push-due → List Float
-points c = c .push-due .last .1 .0
+points c = c .push-due .last .1 .1 .1 .0
 
 abbrev under : tie.After-under → GroundSample
 under c = c .under .given .0 .0
@@ -72,8 +72,8 @@ ball c = c .before .put-down .result
 came-step : (c : tie.After-push-due) → Came c toPush (c .before .before .before .count-step .result) (start (step c) .args .points .now)
 came-step c lc = stepped _ _ (step c .step-on .ensures) (c .before .before .point-due .ensures) (c .before .before .before .count-step .ensures)
 
-came-push : (c : tie.After-t2) → Came (push c) toLook (c .t2 .given .0 .0) (points (push c))
-came-push c lc = due-pushed _ _ _ _ (came-step (push c) lc) (push c .push-due .ensures) (c .t2 .given .1)
+came-push : (c : tie.After-sampled2) → Came (push c) toLook (c .sampled2 .given .0 .0) (points (push c))
+came-push c lc = due-pushed _ _ _ _ (came-step (push c) lc) (push c .push-due .ensures) (c .sampled2 .given .1)
 
 came-look : (c : tie.After-under) → let p = on-push (look c) in Came (push p) (λ e g s d. toTest e g s d (under c)) (c .under .given .0 .1 .0)
     (points (push p))
@@ -94,19 +94,22 @@ count-step-requires c κs =
     let p = start c .pre in
     (omega (arith, p .1 .0, p .1 .1 .limit), (p .1 .1 .work, rw (c .step-on .ensures) (pass-at-most-200 _ _)))
 
-enum-known-t2 : tie.Need-enum-known-t2
-enum-known-t2 c = search needs
+push-due-requires : tie.Need-push-due-requires
+push-due-requires c κs = start (c .before .before .before) .pre .0
 
-enum-told : tie.Need-enum-told
-enum-told c = search needs
+enum-known-sampled : tie.Need-enum-known-sampled
+enum-known-sampled c = search needs
 
 same-length : tie.Need-same-length
-same-length c = c .before .before .before .before .push-due .kept .1 .0
+same-length c = c .before .before .before .before .before .push-due .kept .1 .1 .1 .0
 
 returns : tie.Need-returns
 returns c lc =
-    let p = c .before .before .before .before in
-    ended (due-full _ _ _ _ (came-step p lc) (p .push-due .ensures) (c .enum-told .given .1))
+    let p = c .before .before .before .before .before in
+    ended (due-stopped _ _ _ _ (came-step p lc) (p .push-due .ensures) (c .before .sampled .given .1))
+
+enum-known-sampled-2 : tie.Need-enum-known-sampled-2
+enum-known-sampled-2 c = search needs
 
 look-requires : tie.Need-look-requires
 look-requires c κs = start (step (push (c .before .before .before))) .pre .0
@@ -114,8 +117,8 @@ look-requires c κs = start (step (push (c .before .before .before))) .pre .0
 enum-known-under : tie.Need-enum-known-under
 enum-known-under c = search needs
 
-enum-told-2 : tie.Need-enum-told-2
-enum-told-2 c = search needs
+enum-told : tie.Need-enum-told
+enum-told c = search needs
 
 same-length-2 : tie.Need-same-length-2
 same-length-2 c = came-push (on-push (c .before .before)) [] .points .long
@@ -123,13 +126,13 @@ same-length-2 c = came-push (on-push (c .before .before)) [] .points .long
 returns-2 : tie.Need-returns-2
 returns-2 c lc =
     let l = c .before .before in
-    ended (spot-off _ _ _ (came-push (on-push l) lc) (l .look .ensures) (c .enum-told2 .given .1))
+    ended (spot-off _ _ _ (came-push (on-push l) lc) (l .look .ensures) (c .enum-told .given .1))
 
 enum-known-t4 : tie.Need-enum-known-t4
 enum-known-t4 c = search needs
 
-enum-told-3 : tie.Need-enum-told-3
-enum-told-3 c = search needs
+enum-told-2 : tie.Need-enum-told-2
+enum-told-2 c = search needs
 
 same-length-3 : tie.Need-same-length-3
 same-length-3 c = came-look (seen (c .before .before)) [] .points .long
@@ -137,33 +140,38 @@ same-length-3 c = came-look (seen (c .before .before)) [] .points .long
 returns-3 : tie.Need-returns-3
 returns-3 c lc =
     let t = c .before .before in
-    ended (state-bad _ (came-look (seen t) lc) (t .before .put-down .ensures) (t .test .ensures) (c .enum-told3 .given .1))
+    ended (state-bad _ (came-look (seen t) lc) (t .before .put-down .ensures) (t .test .ensures) (c .enum-told2 .given .1))
 
-enum-known-t5 : tie.Need-enum-known-t5
-enum-known-t5 c = search needs
+push-point-requires : tie.Need-push-point-requires
+push-point-requires c κs =
+    let l = look (seen (test (good (c .before .before)))) in
+    start (step (push (on-push l))) .pre .0
 
-enum-told-4 : tie.Need-enum-told-4
-enum-told-4 c = search needs
+enum-known-rested : tie.Need-enum-known-rested
+enum-known-rested c = search needs
 
 same-length-4 : tie.Need-same-length-4
 same-length-4 c =
-    let p = c .before .before .before .before in
-    p .push-point .kept .0 ∙ came-held p [] .points .long
+    let p = c .before .before .before .before .before in
+    p .push-point .kept .1 .1 .0 ∙ came-held p [] .points .long
 
 returns-4 : tie.Need-returns-4
 returns-4 c lc =
-    let p = c .before .before .before .before in
-    ended (points-full _ _ _ (came-held p lc) (p .push-point .ensures) (c .enum-told4 .given .1))
+    let p = c .before .before .before .before .before in
+    ended (point-stopped _ _ _ (came-held p lc) (p .push-point .ensures) (c .before .rested .given .1))
+
+enum-known-rested-2 : tie.Need-enum-known-rested-2
+enum-known-rested-2 c = search needs
 
 same-length-5 : tie.Need-same-length-5
 same-length-5 c =
     let p = c .before .before .before .before .before in
-    p .push-point .kept .0 ∙ came-held p [] .points .long
+    p .push-point .kept .1 .1 .0 ∙ came-held p [] .points .long
 
 returns-5 : tie.Need-returns-5
 returns-5 c lc =
     let p = c .before .before .before .before .before in
-    ended (point-pushed _ _ _ (came-held p lc) (p .push-point .ensures) (c .before .t5 .given .1))
+    ended (point-pushed _ _ _ (came-held p lc) (p .push-point .ensures) (c .before .rested2 .given .1))
 
 same-length-6 : tie.Need-same-length-6
 same-length-6 c = came-test (good (c .before .before)) [] .points .long
@@ -181,28 +189,28 @@ ground-step-spec =
     (λ c κs. tt)
     count-step-requires
     (λ c κs. tt)
-    (λ c κs. tt)
-    enum-known-t2
-    enum-told
+    push-due-requires
+    enum-known-sampled
     same-length
     returns
+    enum-known-sampled-2
     look-requires
     enum-known-under
-    enum-told-2
+    enum-told
     same-length-2
     returns-2
     (λ c κs. tt)
     (λ c κs. tt)
     enum-known-t4
-    enum-told-3
+    enum-told-2
     same-length-3
     returns-3
     (λ c κs. tt)
-    (λ c κs. tt)
-    enum-known-t5
-    enum-told-4
+    push-point-requires
+    enum-known-rested
     same-length-4
     returns-4
+    enum-known-rested-2
     same-length-5
     returns-5
     (λ c κs. tt)

@@ -14,7 +14,7 @@ use Rattle.tally.specs.Contracts.{place, Reached}
 use Rattle.tally.specs.declared.Conditions.{Conditions}
 use Rattle.tally.specs.declared.Tally.{Tally}
 use Rattle.tally.proofs.Loop.{still-bounded}
-use Rattle.tally.proofs.Reached.{begun, ended, on, came, if-taken, point-pushed, points-full, point-fits, truncated}
+use Rattle.tally.proofs.Reached.{begun, ended, on, came, if-taken, point-pushed, point-stopped, point-fits, truncated}
 use Rattle.hop.specs.declared.Way.{Way}
 use Rattle.hop.proofs.Ways.{flew, hop-ended, hop-due}
 use Rattle.strike.specs.Strike.{fly}
@@ -32,10 +32,10 @@ out c = c .before .before
 abbrev start : tie.After-push-point → tie.Start
 start c = out c .before .before .before .before .before
 
-abbrev push : tie.After-t1 → tie.After-push-point
+abbrev push : tie.After-pushed2 → tie.After-push-point
 push c = c .before .before .before .before
 
-abbrev pushed : tie.After-hop → tie.After-t1
+abbrev pushed : tie.After-hop → tie.After-pushed2
 pushed c = c .before .before .before .before
 
 abbrev hop : tie.After-flight3 → tie.After-hop
@@ -57,8 +57,9 @@ Came c rest t l =
 came-push : (c : tie.After-push-point) → Came c (λ c state hit t. toPush c state hit (t .points)) (start c .args .t) (start c .args .points .now)
 came-push c lc = came (flying _ _ _ _ (out c .before .if1 .left))
 
-came-hop : (c : tie.After-t1) → Came (push c) (λ c state hit t. toHop c state hit (t .points)) (c .t1 .given .0 .0) (push c .push-point .last .0)
-came-hop c lc = came (point-pushed _ _ _ (came-push (push c) lc) (push c .push-point .ensures) (c .t1 .given .1))
+came-hop : (c : tie.After-pushed2) → Came (push c) (λ c state hit t. toHop c state hit (t .points)) (c .pushed2 .given .0 .0)
+    (push c .push-point .last .1 .1 .0)
+came-hop c lc = came (point-pushed _ _ _ (came-push (push c) lc) (push c .push-point .ensures) (c .pushed2 .given .1))
 
 abbrev hop-points : tie.After-hop → List Float
 hop-points c = c .hop .last .1 .1 .0
@@ -73,8 +74,8 @@ came-way c lc =
 mark-fits : (c : tie.After-hop) → start (push (pushed c)) .args .t .points * pointWidth ≤ length (hop-points c)
 mark-fits c =
     let q = pushed c in
-    let f = point-fits (courseOf (start (push q) .args .sheet .now)) _ _ (push q .push-point .ensures) (q .t1 .given .1) in
-    omega (arith, f .0, f .1, c .hop .kept .1 .1 .0, push q .push-point .kept .0)
+    let f = point-fits (courseOf (start (push q) .args .sheet .now)) _ _ (push q .push-point .ensures) (q .pushed2 .given .1) in
+    omega (arith, f .0, f .1, c .hop .kept .1 .1 .0, push q .push-point .kept .1 .1 .0)
 
 came-discard : (c : tie.After-truncate) → let f = kept-way c .before .before .before in
     Came (push (pushed (hop f))) (λ e state hit t. toGround e state hit (t .points)) (f .flight3 .given .0 .1 .0) (hop-points (hop f))
@@ -89,19 +90,22 @@ returns : tie.Need-returns
 unfolding fly
 returns c lc = on (ended (if-taken _ _ _ begun refl (c .if1 .taken)))
 
-enum-known-t1 : tie.Need-enum-known-t1
-enum-known-t1 c = search needs
+push-point-requires : tie.Need-push-point-requires
+push-point-requires c κs = c .before .before .before .before .before .before .pre .0
 
-enum-told : tie.Need-enum-told
-enum-told c = search needs
+enum-known-pushed : tie.Need-enum-known-pushed
+enum-known-pushed c = search needs
 
 same-length : tie.Need-same-length
-same-length c = c .before .before .before .before .push-point .kept .0
+same-length c = c .before .before .before .before .before .push-point .kept .1 .1 .0
 
 returns-2 : tie.Need-returns-2
 returns-2 c lc =
-    let p = c .before .before .before .before in
-    on (ended (points-full _ _ _ (came-push p lc) (p .push-point .ensures) (c .enum-told .given .1)))
+    let p = c .before .before .before .before .before in
+    on (ended (point-stopped _ _ _ (came-push p lc) (p .push-point .ensures) (c .before .pushed .given .1)))
+
+enum-known-pushed-2 : tie.Need-enum-known-pushed-2
+enum-known-pushed-2 c = search needs
 
 hop-requires : tie.Need-hop-requires
 hop-requires c κs =
@@ -118,8 +122,8 @@ enum-known-flight-2 c = search needs
 enum-known-flight-3 : tie.Need-enum-known-flight-3
 enum-known-flight-3 c = search needs
 
-enum-told-2 : tie.Need-enum-told-2
-enum-told-2 c = search needs
+enum-told : tie.Need-enum-told
+enum-told c = search needs
 
 enum-known-way : tie.Need-enum-known-way
 enum-known-way c = search needs
@@ -130,7 +134,7 @@ truncate-requires c κs = mark-fits (hop (c .before .before .before .before .bef
 same-length-2 : tie.Need-same-length-2
 same-length-2 c =
     let h = c .before .before .before .before .before in
-    h .hop .kept .1 .1 .0 ∙ push (pushed h) .push-point .kept .0
+    h .hop .kept .1 .1 .0 ∙ push (pushed h) .push-point .kept .1 .1 .0
 
 returns-3 : tie.Need-returns-3
 returns-3 c lc =
@@ -140,7 +144,7 @@ returns-3 c lc =
 same-length-3 : tie.Need-same-length-3
 same-length-3 c =
     let h = c .before .before .before .before .before in
-    h .hop .kept .1 .1 .0 ∙ push (pushed h) .push-point .kept .0
+    h .hop .kept .1 .1 .0 ∙ push (pushed h) .push-point .kept .1 .1 .0
 
 returns-4 : tie.Need-returns-4
 returns-4 c lc =
@@ -151,7 +155,7 @@ same-length-4 : tie.Need-same-length-4
 same-length-4 c = came-way (c .before .before .before) [] .points .long
 
 returns-5 : tie.Need-returns-5
-returns-5 c lc = on (ended (way-late _ _ _ _ _ (came-way (c .before .before .before) lc) (c .enum-told2 .given .1)))
+returns-5 c lc = on (ended (way-late _ _ _ _ _ (came-way (c .before .before .before) lc) (c .enum-told .given .1)))
 
 same-length-5 : tie.Need-same-length-5
 same-length-5 c = came-way (c .before .before .before .before .before .before) [] .points .long
@@ -177,17 +181,17 @@ fly-spec =
     tie.close
     (tie.spec
     returns
-    (λ c κs. tt)
-    enum-known-t1
-    enum-told
+    push-point-requires
+    enum-known-pushed
     same-length
     returns-2
+    enum-known-pushed-2
     (λ c κs. tt)
     hop-requires
     enum-known-flight
     enum-known-flight-2
     enum-known-flight-3
-    enum-told-2
+    enum-told
     enum-known-way
     (λ c κs. tt)
     truncate-requires

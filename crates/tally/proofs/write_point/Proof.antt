@@ -1,4 +1,4 @@
--- A point is pushed as its eleven doubles.
+-- A point is pushed as its twelve doubles.
 use borrow.Author.Needs.{needs}
 use Rattle.tally.proofs.write_point.Statement.{statement}
 use Rattle.tally.proofs.write_point.Tie as tie
@@ -13,7 +13,7 @@ same-length : tie.Need-same-length
 same-length c = search needs
 
 returns : tie.Need-returns
-returns c = rw (c .before .before .before .before .before .phase-number .ensures) at (c .before .before .push .ensures)
+returns c = rw (c .before .before .before .before .before .before .phase-number .ensures) at (c .before .before .push .ensures)
 
 pub write-point-spec : {M : Type 1} → statement M
 write-point-spec =

@@ -65,19 +65,25 @@ is-last-requires c κs =
     let at-start = at-shared-slice-known .before in
     omega (arith, at-loop .loop .inv .room, at-start .good)
 
+last-impact-requires : tie.Need-last-impact-requires Inv-loop μ-loop
+last-impact-requires c κs =
+    let at-strike-end = c .before .before .before .before .before .before in
+    let at-physics = at-strike-end .before .before .before .before .before .before in
+    at-physics .before .before .before .before .before .pre .0
+
 same-length-3 : tie.Need-same-length-3 Inv-loop μ-loop
 same-length-3 c =
     let at-last-impact = c .before .before .before .before in
     let at-known-told = at-last-impact .before .before .before .before .before .before in
     let at-loop = at-known-told .before .before .before .before .before in
-    at-last-impact .last-impact .kept .0 ∙ at-loop .loop .inv .reached .contacts .long
+    at-last-impact .last-impact .kept .1 .1 .0 ∙ at-loop .loop .inv .reached .contacts .long
 
 same-length-4 : tie.Need-same-length-4 Inv-loop μ-loop
 same-length-4 c =
     let at-last-impact = c .before .before .before .before in
     let at-known-told = at-last-impact .before .before .before .before .before .before in
     let at-loop = at-known-told .before .before .before .before .before in
-    at-last-impact .last-impact .kept .1 .0 ∙ at-loop .loop .inv .reached .points .long
+    at-last-impact .last-impact .kept .1 .1 .1 .0 ∙ at-loop .loop .inv .reached .points .long
 
 returns-2 : tie.Need-returns-2 Inv-loop μ-loop
 returns-2 c =
@@ -251,6 +257,16 @@ loop-again c =
 enum-known-way-2 : tie.Need-enum-known-way-2 Inv-loop μ-loop
 enum-known-way-2 c = search needs
 
+time-up-requires : tie.Need-time-up-requires Inv-loop μ-loop
+time-up-requires c κs =
+    let at-match5 = c .before .before .before .before .before .before in
+    let at-flown = at-match5 .before .before .before .before .before .before in
+    let at-match2 = at-flown .before .before .before .before .before .before in
+    let at-fly = at-match2 .before .before .before .before in
+    let at-strike-end = at-fly .before .before .before .before .before .before in
+    let at-physics = at-strike-end .before .before .before .before .before .before in
+    at-physics .before .before .before .before .before .pre .0
+
 same-length-11 : tie.Need-same-length-11 Inv-loop μ-loop
 same-length-11 c =
     let at-match6 = c .before .before .before .before .before .before in
@@ -270,7 +286,7 @@ same-length-12 c =
     let at-fly = at-points2 .before in
     let at-strike-end = at-fly .before .before .before .before .before .before in
     let at-loop = at-strike-end .before .before .before .before in
-    c .before .before .time-up .kept .0 ∙ at-fly .fly .kept .1 .1 .0 ∙ at-loop .loop .inv .reached .points .long
+    c .before .before .time-up .kept .1 .1 .0 ∙ at-fly .fly .kept .1 .1 .0 ∙ at-loop .loop .inv .reached .points .long
 
 returns-6 : tie.Need-returns-6 Inv-loop μ-loop
 returns-6 c =
@@ -294,9 +310,11 @@ ground-requires c κs =
     let at-drop-to-ground = c .before .before .before .before .before .before .before .before in
     let at-known-told3 = at-drop-to-ground .before .before .before .before .before .before in
     let at-fly = at-known-told3 .before .before .before .before .before .before in
-    let at-strike = at-fly .before .before .before .before .before .before .before .before .before in
-    (start at-strike .pre .0, bounded-after (at-drop-to-ground .drop-to-ground .ensures (courseOf (start at-strike .args .sheet .now)) [])
-    (bounded-after (at-fly .fly .ensures []) (after-strike at-strike)))
+    let at-strike = at-fly .before .before .before .before .before .before .before .before .before in (
+      start at-strike .pre .0,
+      bounded-after (at-drop-to-ground .drop-to-ground .ensures (courseOf (start at-strike .args .sheet .now)) [])
+          (bounded-after (at-fly .fly .ensures []) (after-strike at-strike)),
+    )
 
 enum-known-ground : tie.Need-enum-known-ground Inv-loop μ-loop
 enum-known-ground c = search needs
@@ -398,7 +416,7 @@ run-spec =
     returns
     (λ c κs. tt)
     is-last-requires
-    (λ c κs. tt)
+    last-impact-requires
     same-length-3
     same-length-4
     returns-2
@@ -426,7 +444,7 @@ run-spec =
     loop-less
     loop-again
     enum-known-way-2
-    (λ c κs. tt)
+    time-up-requires
     same-length-11
     same-length-12
     returns-6
