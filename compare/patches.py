@@ -265,8 +265,6 @@ PLANTS = {
     "contact-early": ("ground.rs", "                hit(crate::added::Hit::hop_flown);\n",
                       "                hit(crate::added::Hit::hop_flown);\n                if self.terrain.run().contact_room == contacts.len() { self.terrain.run().stop(20, crate::added::Hit::full_20_hop); }\n"),
     "limit-first": ("ground.rs", "            if t >= t_end - TIME_EPS {\n", "            self.terrain.run().due(crate::added::Hit::limit_23_hop);\n            if t >= t_end - TIME_EPS {\n"),
-    "evaluation-22": ("ground.rs", "        crate::added::evaluation(shut);\n        let fx = f(x);\n",
-                      "        let fx = f(x);\n        crate::added::evaluation(shut);\n"),
     "evaluation-slide": ("ground.rs", "        crate::added::evaluation(shut);\n",
                          "        if shut == crate::added::Hit::hop_shut_by_jump { crate::added::evaluation(shut); }\n"),
     "hold": ("ground.rs", "surface.mu_roll * G * n.y\n", "surface.mu_roll * G\n"),
