@@ -14,13 +14,14 @@ use Rattle.look.specs.Tree.{Tree, Spot, Did, exec, looks}
 use Rattle.look.specs.declared.Rect.{Rect}
 use Rattle.course.specs.Sheet.{courseOf}
 use Rattle.records.specs.Records.{shown}
-use Rattle.tally.specs.Language.{Log, Outcome, goes, stops, Ran, if_then_else_, pointWidth, contactWidth}
+use Rattle.tally.specs.Language.{M, Log, Outcome, goes, stops, Ran, if_then_else_, pointWidth, contactWidth}
 use Rattle.shot.specs.declared.Shot.{Shot}
 use Rattle.tally.specs.declared.Conditions.{Conditions}
 use Rattle.roll.specs.declared.Ending.{Ending}
 use Rattle.state.specs.declared.Termination.{Termination}
 use Rattle.state.specs.declared.Termination.the-variants.{Nothing, Rest, MaxTime, MaxImpacts}
-use Rattle.train.specs.Train.{train}
+use Rattle.hop.specs.declared.Way.{Way}
+use Rattle.train.specs.Train.{trainBy, train}
 use Rattle.ground.specs.Tests.{refusalOf}
 use Rattle.ground.specs.declared.Settled.{Settled}
 
@@ -99,16 +100,22 @@ firstLog landing nc np = record {
   good = landing;
 }
 
--- the run of an accepted call, over the course's looks
+-- the run of an accepted call, over the course's looks. The hop is an argument
+abbrev pub runBy : (Conditions → BallState → M Way) → Shot → ℕ → ℕ → Tree (Ran Ending)
+runBy hop s nc np = trainBy hop (conditionsOf s) (s .landing) (firstLog (s .landing) nc np)
+
 unfoldable pub runOf : Shot → ℕ → ℕ → Tree (Ran Ending)
 runOf s nc np = train (conditionsOf s) (s .landing) (firstLog (s .landing) nc np)
 
 module _ (sheet : List ℕ) (shot : Shot) (cs ps : List Float) where
-  -- lists untouched on a refusal
-  unfoldable pub settleOf : Result
-  settleOf =
+  -- by a run. Lists untouched on a refusal
+  abbrev pub settleBy : Tree (Ran Ending) → Result
+  settleBy run =
       let n = refusalOf sheet shot (length cs) (length ps) in
-      if eqb n 0 then reportOf (length cs) (length ps) (exec (courseOf sheet) noRect (runOf shot (length cs) (length ps))) else result (refusal n) cs ps
+      if eqb n 0 then reportOf (length cs) (length ps) (exec (courseOf sheet) noRect run) else result (refusal n) cs ps
+
+  unfoldable pub settleOf : Result
+  settleOf = settleBy (runOf shot (length cs) (length ps))
 
   -- the spots looked at, in order. 01: "The definition lists their spots, worked out from the input"
   unfoldable pub looksOf : List Spot

@@ -17,7 +17,7 @@ use Rattle.tally.specs.declared.Tally.{Tally}
 use Rattle.tally.proofs.Reached.{begun, step-made}
 use Rattle.arrival.specs.Arrival.{clearance, hopArrival}
 use Rattle.arrival.specs.declared.Arc.{Arc}
-use Rattle.hop.specs.Hop.{flight, stepArc, stepEnd, hopNext, hopStep}
+use Rattle.hop.specs.Hop.{flight, aeroFor, spinAfter, airWith, stepArc, stepEnd, hopNext, hopStep}
 use Rattle.hop.specs.declared.Flight.{Flight}
 use Rattle.hop.specs.declared.Way.{Way}
 
@@ -29,11 +29,11 @@ module _ (c : Conditions) (f : Flight) (arc : Arc) where
   toClear b = clearance b.pos >>= toArrive b
 
   abbrev pub toTest : M (Pass Flight Way)
-  toTest = test (stepEnd c arc f.state) >>= toClear
+  toTest = test (stepEnd (spinAfter c.fading) arc f.state) >>= toClear
 
 -- the step is made and counted
-pub stepped : {o : Oracle} {t t' : Tally} {lc lp : List Float} (c : Conditions) (aero : AeroParams) (f : Flight) {arc : Arc} → arc ≡ stepArc c aero f.state
-    → MakesStep t 0 t' → Reached o (hopStep c aero f) (place t lc lp) 1 (toTest c f arc) (place t' lc lp)
+pub stepped : {o : Oracle} {t t' : Tally} {lc lp : List Float} (c : Conditions) (aero : AeroParams) (f : Flight) {arc : Arc}
+    → arc ≡ stepArc c (aeroFor c.fading aero) f.state → MakesStep t 0 t' → Reached o (hopStep c (airWith c aero) f) (place t lc lp) 1 (toTest c f arc) (place t' lc lp)
 unfolding hopStep
 stepped c aero f e r = rw (← e) (step-made _ _ begun r)
 

@@ -1,23 +1,31 @@
--- Statements. Both settles are one, over the factor by which a hop step multiplies the spin: the second settle's, or 1, which gives the spin as it was.
+-- Statements. Both settles fly one hop, over the factor by which a hop step multiplies the spin: the second settle's, or 1, which gives the spin as it was.
+-- Of the whole settle: promises, Factor.
 use mathlib.Core.Path.{_≡_, refl}
 use mathlib.Core.Bool.{Bool, true, false, cond}
 use lib.Dec.{T}
 use lib.Ieee.{Float, binary64, fits}
-use Rattle.number.specs.Ops.{_⊕_, _⊖_, dec}
-use Rattle.number.specs.Number.{minOf}
+use Rattle.number.specs.Ops.{dec}
 use Rattle.number.specs.Rounding.{times-one}
 use Rattle.vector.specs.Vec.{vscale}
 use Rattle.vector.specs.declared.DVec3.{DVec3}
 use Rattle.state.specs.declared.BallState.{BallState}
-use Rattle.aero.specs.declared.AeroParams.{AeroParams}
-use Rattle.flight.specs.Flight.{flightStep}
+use Rattle.aero.specs.Aero.{fromSpinVector}
+use Rattle.tally.specs.Language.{M}
 use Rattle.tally.specs.declared.Conditions.{Conditions}
-use Rattle.arrival.specs.declared.Arc.{Arc}
-use Rattle.hop.specs.Hop.{fadeFactor, spinAfter, aeroFor, motionOf, stepArc, stepEnd}
+use Rattle.hop.specs.Hop.{held, faded, fadeFactor, aeroFor, spinAfter, hopBy, hop}
+use Rattle.hop.specs.declared.Way.{Way}
 
 -- 02, paper 13: "with factor 1 giving the old settle"
 abbrev pub factorOf : Bool → Float → Float
 factorOf fading h = cond fading (fadeFactor h) (dec 1 1)
+
+-- the hop over a factor: each step flies with the spin it began with, and then the spin is multiplied
+abbrev pub hopFading : (Float → Float) → Conditions → BallState → M Way
+hopFading factor = hopBy (λ _. faded factor)
+
+-- the hop of ground.rs, in which the spin is held
+abbrev pub hopHeld : Conditions → BallState → M Way
+hopHeld = hopBy (λ w. held (fromSpinVector w))
 
 -- a vector of doubles, as every DVec3 of the code is
 pub record Doubles (w : DVec3) : Type 0 where
@@ -31,14 +39,12 @@ unfolding spinAfter vscale
 by-factor true h w d = refl
 by-factor false h w d = rw (times-one (w .x) (d .x), times-one (w .y) (d .y), times-one (w .z) (d .z))
 
--- ---- where the spin is held, a hop is word for word the one of ground.rs, and so the settle is the one before paper 13: the two definitions that the fading changed
-module _ (c : Conditions) (held : c .fading ≡ false) where
-  pub held-arc : (aero : AeroParams) (s : BallState) → let h = minOf (c .physics .dt) (c .«t_end» ⊖ s .time) in
-      stepArc c aero s
-      ≡ record { «air_density» = c .«air_density»; a = motionOf s; b = flightStep (c .ball) aero (c .«air_density») (motionOf s) (s .time) h; h = h }
-  unfolding stepArc aeroFor
-  held-arc aero s = rw held
+-- where the spin is held, the hop is word for word the one of ground.rs; where it fades, the one over the factor
+module _ (c : Conditions) where
+  pub held-hop : c .fading ≡ false → hop c ≡ hopHeld c
+  unfolding hop aeroFor spinAfter
+  held-hop h = rw h
 
-  pub held-end : (arc : Arc) (s : BallState) → stepEnd c arc s ≡ record { time = s .time ⊕ arc .h; pos = arc .b .pos; vel = arc .b .vel; spin = s .spin }
-  unfolding stepEnd spinAfter
-  held-end arc s = rw held
+  pub faded-hop : c .fading ≡ true → hop c ≡ hopFading fadeFactor c
+  unfolding hop aeroFor spinAfter
+  faded-hop h = rw h

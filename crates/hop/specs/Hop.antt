@@ -33,31 +33,50 @@ motionOf s = record { pos = s .pos; vel = s .vel }
 
 -- ---- the spin in the air
 
--- the second settle's factor after a hop step of length h. 02, paper 13: "the old spin times exp(−(0.04×h))"
+-- how spin goes in the air: drag and lift of a step that begins with it, and the spin after a step of length h
+pub record Air : Type 0 where
+  pub aero : DVec3 → AeroParams
+  pub after : Float → DVec3 → DVec3
+
+-- ground.rs: `let aero = AeroParams::from_spin_vector(start.spin)`, once a hop, and `spin: start.spin` held fixed
+abbrev pub held : AeroParams → Air
+held aero = record { aero = λ _. aero; after = λ _ w. w }
+
+-- over the factor, a function of the step's length. 02, paper 13: "Each step flies with the spin it began with", and then "the spin becomes the old
+-- spin times" the factor
+abbrev pub faded : (Float → Float) → Air
+faded factor = record { aero = fromSpinVector; after = λ h w. vscale w (factor h) }
+
+-- the second settle's factor. 02, paper 13: "exp(−(0.04×h))"
 unfoldable pub fadeFactor : Float → Float
 fadeFactor h = expOf (neg (dec 4 100 ⊗ h))
 
--- the spin after a hop step: faded, or held fixed as in ground.rs, which is factor 1 (Fade)
-unfoldable pub spinAfter : Bool → Float → DVec3 → DVec3
-spinAfter fading h w = cond fading (vscale w (fadeFactor h)) w
-
--- drag and lift of a step. 02, paper 13: "Each step flies with the spin it began with"; where the spin is held, that is the hop's
+-- a shot's spin fades, or is held
 unfoldable pub aeroFor : Bool → AeroParams → DVec3 → AeroParams
-aeroFor fading aero w = cond fading (fromSpinVector w) aero
+aeroFor fading aero = cond fading (faded fadeFactor .aero) (held aero .aero)
+
+unfoldable pub spinAfter : Bool → Float → DVec3 → DVec3
+spinAfter fading = cond fading (faded fadeFactor .after) (λ _ w. w)
+
+-- its air, in a hop that begins with this drag and lift, or with this spin
+abbrev pub airWith : Conditions → AeroParams → Air
+airWith c aero = record { aero = aeroFor c.fading aero; after = spinAfter c.fading }
+
+abbrev pub airOf : Conditions → DVec3 → Air
+airOf c w = airWith c (fromSpinVector w)
 
 -- ---- a step
 
 -- `let h = self.dt.min(t_end - t); let b = rk4::step(s, t, h, ..)`
-unfoldable pub stepArc : Conditions → AeroParams → BallState → Arc
+unfoldable pub stepArc : Conditions → (DVec3 → AeroParams) → BallState → Arc
 stepArc c aero s =
     let a = motionOf s in
     let h = minOf c.physics.dt (c.«t_end» ⊖ s.time) in
-    let own = aeroFor c.fading aero s.spin in
-    record { «air_density» = c.«air_density»; a = a; b = flightStep c.ball own c.«air_density» a s.time h; h = h }
+    record { «air_density» = c.«air_density»; a = a; b = flightStep c.ball (aero s.spin) c.«air_density» a s.time h; h = h }
 
 -- the state at the step's end, at `t + h`
-unfoldable pub stepEnd : Conditions → Arc → BallState → BallState
-stepEnd c arc s = record { time = s .time ⊕ arc .h; pos = arc .b .pos; vel = arc .b .vel; spin = spinAfter c.fading (arc .h) s.spin }
+unfoldable pub stepEnd : (Float → DVec3 → DVec3) → Arc → BallState → BallState
+stepEnd after arc s = record { time = s .time ⊕ arc .h; pos = arc .b .pos; vel = arc .b .vel; spin = after (arc .h) s.spin }
 
 -- after a step to b: the arrival, tested; or, with no crossing, the sample point if it is due
 unfoldable pub hopNext : Flight → BallState → Option BallState → M (Pass Flight Way)
@@ -74,24 +93,31 @@ abbrev pub flownTo : BallState → BallState → Made
 flownTo state end = record { from = state; to = end; phase = Hop; rolling = false; evaluations = 0 }
 
 -- one pass
-unfoldable pub hopStep : Conditions → AeroParams → Flight → M (Pass Flight Way)
-hopStep c aero f = do
-  let arc = stepArc c aero f.state
-  s ← makeStep (flownTo f.state (stepEnd c arc f.state))
+unfoldable pub hopStep : Conditions → Air → Flight → M (Pass Flight Way)
+hopStep c air f = do
+  let arc = stepArc c air.aero f.state
+  s ← makeStep (flownTo f.state (stepEnd air.after arc f.state))
   b ← test s.to
   end ← clearance b.pos
   arrival ← hopArrival arc f.state.time end f.state.spin
   hopNext f b arrival
 
 -- at most n steps
-unfoldable pub hopFrom : Conditions → AeroParams → ℕ → Flight → M Way
-hopFrom c aero n = loop n (λ f. isLate f.state.time c.«t_end») (λ f. pure (Late f.state)) (hopStep c aero)
+unfoldable pub hopFrom : Conditions → Air → ℕ → Flight → M Way
+hopFrom c air n = loop n (λ f. isLate f.state.time c.«t_end») (λ f. pure (Late f.state)) (hopStep c air)
 
--- from what the loop carries
-abbrev pub hopOn : Conditions → Flight → M Way
-hopOn c f = do
+-- in some air, which may go by the spin that the hop begins with: from what the loop carries, and from the start
+abbrev pub hopOnBy : (DVec3 → Air) → Conditions → Flight → M Way
+hopOnBy air c f = do
   n ← stepsLeft c
-  hopFrom c (fromSpinVector f.state.spin) n f
+  hopFrom c (air f.state.spin) n f
+
+abbrev pub hopBy : (DVec3 → Air) → Conditions → BallState → M Way
+hopBy air c start = hopOnBy air c (flight start (start.time ⊕ sampleInterval))
+
+-- a shot's
+abbrev pub hopOn : Conditions → Flight → M Way
+hopOn c = hopOnBy (airOf c) c
 
 unfoldable pub hop : Conditions → BallState → M Way
-hop c start = hopOn c (flight start (start.time ⊕ sampleInterval))
+hop c = hopBy (airOf c) c

@@ -79,7 +79,7 @@ fn aero_for(fading: bool, aero: AeroParams, spin: DVec3) -> AeroParams
 }
 
 fn step_arc(c: Conditions, aero: AeroParams, s: BallState) -> Arc
-    ensures { λ r. ⌜ r ≡ stepArc c aero s ⌝ }
+    ensures { λ r. ⌜ r ≡ stepArc c (aeroFor (c .fading) aero) s ⌝ }
 {
     let pos = s.pos;
     let vel = s.vel;
@@ -99,7 +99,7 @@ fn step_arc(c: Conditions, aero: AeroParams, s: BallState) -> Arc
 }
 
 fn step_end(c: Conditions, arc: Arc, s: BallState) -> BallState
-    ensures { λ r. ⌜ r ≡ stepEnd c arc s ⌝ }
+    ensures { λ r. ⌜ r ≡ stepEnd (spinAfter (c .fading)) arc s ⌝ }
 {
     let b = arc.b;
     let pos = b.pos;

@@ -6,22 +6,21 @@ use Rattle.state.specs.declared.BallState.{BallState}
 use Rattle.state.specs.declared.Phase.{Phase}
 use Rattle.state.specs.declared.Phase.the-variants.{Hop as InHop}
 use Rattle.surface.specs.declared.GroundSample.{GroundSample}
-use Rattle.aero.specs.declared.AeroParams.{AeroParams}
 use Rattle.look.specs.Tree.{Oracle, Spot}
-use Rattle.tally.specs.Language.{M, Pass, again, over, look, test, pushPoint, pushContact, truncate}
+use Rattle.tally.specs.Language.{M, Pass, again, over, look, test, pushPoint, pushContact}
 use Rattle.tally.specs.Triple.{Past, spot, sawAt, missedAt, passedBy, pointed, touched, cutTo, OnWith, Triple}
 use Rattle.tally.specs.Triple.{t-after, t-bind, t-if, t-same, t-look, t-test, t-point, t-contact, t-mark, t-truncate, t-left, t-loop}
 use Rattle.tally.specs.declared.Conditions.{Conditions}
-use Rattle.hop.specs.Hop.{hopStep, hopFrom, hop}
+use Rattle.hop.specs.Hop.{Air, hopStep, hopFrom, hop}
 use Rattle.hop.specs.declared.Flight.{Flight}
 use Rattle.hop.specs.declared.Way.the-variants.{Arrived, Late}
 use Rattle.roll.specs.Roll.{groundStep}
 use Rattle.roll.specs.declared.Roll.{Roll}
 use Rattle.ground_phase.specs.GroundPhase.{timeUp, groundFrom, ground}
-use Rattle.strike.specs.Strike.{strike, rebounds, diesOut, fly, drop}
+use Rattle.strike.specs.Strike.{strike, rebounds, diesOut, flyBy, fly, drop}
 use Rattle.strike.specs.declared.Struck.{Struck}
 use Rattle.strike.specs.declared.Flown.the-variants.{Hop, Ground}
-use Rattle.train.specs.Train.{lastImpact, toGround, trainFrom, train}
+use Rattle.train.specs.Train.{lastImpact, toGround, trainFromBy, trainFrom, train}
 
 module _ (o : Oracle) (I : Past → Type 0) where
   -- I before a part, and after it, however it ends
@@ -56,7 +55,7 @@ module _ {o : Oracle} {I : Past → Type 0} (k : Words o I) where
   w-contact : (a : BallState) (s : GroundSample) (b : BallState) → Holds o I (pushContact a s b)
   w-contact a s b = t-contact a s b (λ w i _. k .contact a s b w i) (λ w i _. i)
 
-  module _ (c : Conditions) (hops : (aero : AeroParams) (f : Flight) → Holds o I (hopStep c aero f)) (grounds : (g : Roll) → Holds o I (groundStep c g)) where
+  module _ (c : Conditions) (hops : (air : Air) (f : Flight) → Holds o I (hopStep c air f)) (grounds : (g : Roll) → Holds o I (groundStep c g)) where
     w-hop : (start : BallState) → Holds o I (hop c start)
     unfolding hop hopFrom
     w-hop start = t-bind (t-left c (λ w i. i)) (λ n. t-loop _ _ _ (λ n f. I) (λ way. I) (λ n f. t-same) (λ f w i. i) (λ n f. on (hops _ f)) n _)
@@ -74,7 +73,7 @@ module _ {o : Oracle} {I : Past → Type 0} (k : Words o I) where
     w-strike state = t-bind (w-look _ _) (λ s. t-bind (w-test _) (λ b. t-same))
 
     w-fly : (rebound : Bool) (state : BallState) (hit : Struck) → Holds o I (fly c rebound state hit)
-    unfolding fly
+    unfolding flyBy
     w-fly rebound state hit = t-if (not rebound) (λ _. t-same) (λ _. t-bind (t-mark (λ w i. i)) (λ m. t-bind (w-point _ _) (λ _. t-bind (w-hop _) (elim [
       | Late b ↦ t-same
       | Arrived b ↦ t-if (diesOut c state hit b) (λ _. t-same) (λ _. t-bind (t-truncate m (λ w i. k .cut m w i)) (λ _. t-same))
@@ -89,7 +88,7 @@ module _ {o : Oracle} {I : Past → Type 0} (k : Words o I) where
     w-lastImpact state hit = t-bind (w-contact _ _ _) (λ _. t-bind (w-point _ _) (λ _. t-same))
 
     w-trainFrom : (n : ℕ) (state : BallState) → Holds o I (trainFrom c n state)
-    unfolding trainFrom
+    unfolding trainFromBy
     w-trainFrom zero state = t-bind (w-strike state) (λ hit. t-if (not (rebounds c hit)) (λ _. w-toGround state hit) (λ _. w-lastImpact state hit))
     w-trainFrom (suc n) state = t-bind (w-strike state) (λ hit. t-bind (w-fly _ state hit) (elim [
       | Ground ↦ w-toGround state hit

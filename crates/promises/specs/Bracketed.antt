@@ -12,7 +12,6 @@ use Rattle.number.specs.Against0.{StepLength}
 use Rattle.vector.specs.declared.DVec3.{DVec3}
 use Rattle.state.specs.declared.BallState.{BallState}
 use Rattle.state.specs.State.{stateOk}
-use Rattle.aero.specs.declared.AeroParams.{AeroParams}
 use Rattle.rk4.specs.declared.Motion.{Motion}
 use Rattle.search.specs.Search.{findRoot}
 use Rattle.search.specs.Evaluations.{Within}
@@ -26,7 +25,7 @@ use Rattle.arrival.specs.Arrival.{clearanceAt, hopArrival}
 use Rattle.arrival.specs.RootSearch.{Gives, EvaluatesAtMost}
 use Rattle.arrival.specs.FirstCrossing.{IfSome}
 use Rattle.arrival.specs.ArrivalTime.{ArrivesIn}
-use Rattle.hop.specs.Hop.{stepArc, hopStep}
+use Rattle.hop.specs.Hop.{Air, stepArc, hopStep}
 use Rattle.hop.specs.declared.Flight.{Flight}
 use Rattle.hop.specs.declared.Way.{Way}
 use Rattle.hop.specs.declared.Way.the-variants.{Arrived, Late}
@@ -57,20 +56,20 @@ GroundLeads P (over e) = P (e .state)
 
 module _ (c : Conditions) where
   -- a pass of a hop, on every course
-  pub record HopBracket (aero : AeroParams) (f : Flight) : Type 0 where
+  pub record HopBracket (air : Air) (f : Flight) : Type 0 where
     -- `h = self.dt.min(t_end - t)` is a double above 0, at most dt
-    pub step : StepLength (c .physics .dt) (stepArc c aero (f .state) .h)
+    pub step : StepLength (c .physics .dt) (stepArc c (air .aero) (f .state) .h)
     -- 01: "the answer within the bracket": an arrival is at t ⊕ tau with 0 ≤ tau ≤ h
     pub arrival : (end : Float)
-        → Gives (IfSome (ArrivesIn (f .state .time) (stepArc c aero (f .state) .h)))
-        (hopArrival (stepArc c aero (f .state)) (f .state .time) end (f .state .spin))
+        → Gives (IfSome (ArrivesIn (f .state .time) (stepArc c (air .aero) (f .state) .h)))
+        (hopArrival (stepArc c (air .aero) (f .state)) (f .state .time) end (f .state .spin))
     -- 01: "at most 200 evaluations", each one look
     pub looks : (b : Bracket) (guess : Float) (o : Oracle) (l : Log)
-        → length (looksIn o (findRoot inM (evaluate (clearanceAt (stepArc c aero (f .state)))) b guess l)) ≤ 200
+        → length (looksIn o (findRoot inM (evaluate (clearanceAt (stepArc c (air .aero) (f .state)))) b guess l)) ≤ 200
     -- 02, paper 4: as many are counted, in all that the pass evaluates
-    pub evaluations : (end : Float) → EvaluatesAtMost 200 (hopArrival (stepArc c aero (f .state)) (f .state .time) end (f .state .spin))
+    pub evaluations : (end : Float) → EvaluatesAtMost 200 (hopArrival (stepArc c (air .aero) (f .state)) (f .state .time) end (f .state .spin))
     -- the pass leads to no earlier time
-    pub onward : Gives (HopLeads (Later (f .state .time))) (hopStep c aero f)
+    pub onward : Gives (HopLeads (Later (f .state .time))) (hopStep c air f)
 
   -- a pass of the ground, on every course
   pub record GroundBracket (g : Roll) : Type 0 where
@@ -85,5 +84,5 @@ module _ (c : Conditions) where
     pub onward : Gives (GroundLeads (Later (g .state .time))) (groundStep c g)
 
   abbrev pub Bracketed : Made → Type 0
-  Bracketed (inAir aero f) = HopBracket aero f
+  Bracketed (inAir air f) = HopBracket air f
   Bracketed (onGround g) = GroundBracket g

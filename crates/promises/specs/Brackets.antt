@@ -10,12 +10,11 @@ use lib.ListN.{length}
 use lib.Ieee.{Float, binary64, fits}
 use lib.Ieee.Bits.{is-true}
 use Rattle.number.specs.Ops.{_⊕_}
-use Rattle.state.specs.declared.BallState.{BallState}
 use Rattle.state.specs.State.{stateOk}
-use Rattle.aero.specs.declared.AeroParams.{AeroParams}
 use Rattle.course.specs.Sheet.{courseOf}
 use Rattle.tally.specs.Times.{isLate}
 use Rattle.shot.specs.declared.Shot.{Shot}
+use Rattle.hop.specs.Hop.{Air}
 use Rattle.hop.specs.declared.Flight.{Flight}
 use Rattle.roll.specs.declared.Roll.{Roll}
 use Rattle.shot.specs.Tests.{physicsOk, landingOk}
@@ -30,10 +29,10 @@ use Rattle.promises.specs.EachPass.{each-train}
 
 module _ (shot : Shot) where
   -- one pass of a hop, and one of the ground, from any state that passes test 22; a pass is due where it is not late, t_end being landing.time + max_time
-  pub one-hop-pass : physicsOk (shot .physics) (shot .«step_limit») ≡ true → landingOk (shot .landing) ≡ true → T (fits binary64 (shot .physics .dt)) → (aero : AeroParams) (f : Flight) → Timed (f .state)
-      → isLate (f .state .time) (shot .landing .time ⊕ shot .physics .«max_time») ≡ false → HopBracket (conditionsOf shot) aero f
+  pub one-hop-pass : physicsOk (shot .physics) (shot .«step_limit») ≡ true → landingOk (shot .landing) ≡ true → T (fits binary64 (shot .physics .dt)) → (air : Air) (f : Flight) → Timed (f .state)
+      → isLate (f .state .time) (shot .landing .time ⊕ shot .physics .«max_time») ≡ false → HopBracket (conditionsOf shot) air f
   unfolding conditionsOf
-  one-hop-pass h k d aero f t due = hop-pass (conditionsOf shot) (accepted-paced shot h k d) aero f t due
+  one-hop-pass h k d air f t due = hop-pass (conditionsOf shot) (accepted-paced shot h k d) air f t due
 
   pub one-ground-pass : physicsOk (shot .physics) (shot .«step_limit») ≡ true → landingOk (shot .landing) ≡ true → T (fits binary64 (shot .physics .dt)) → (g : Roll) → Timed (g .state)
       → isLate (g .state .time) (shot .landing .time ⊕ shot .physics .«max_time») ≡ false → GroundBracket (conditionsOf shot) g

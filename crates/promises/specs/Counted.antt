@@ -16,8 +16,6 @@ use Rattle.state.specs.declared.BallState.{BallState}
 use Rattle.state.specs.declared.Phase.{Phase}
 use Rattle.state.specs.declared.Phase.the-variants.{Hop as InHop}
 use Rattle.surface.specs.declared.GroundSample.{GroundSample}
-use Rattle.aero.specs.Aero.{fromSpinVector}
-use Rattle.aero.specs.declared.AeroParams.{AeroParams}
 use Rattle.search.specs.Evaluations.{Counts, every-at-most-200}
 use Rattle.search.specs.declared.Bracket.{Bracket}
 use Rattle.look.specs.Rect.{spotOk}
@@ -33,19 +31,19 @@ use Rattle.tally.specs.declared.Conditions.{Conditions}
 use Rattle.shot.specs.declared.Shot.{Shot}
 use Rattle.arrival.specs.declared.Arc.{Arc}
 use Rattle.arrival.specs.Arrival.{clearance, clearanceAt, subStep, crossingFrom, firstCrossing, endValue, crossingTime, hopArrival}
-use Rattle.hop.specs.Hop.{flight, hopNext, hopStep, hopFrom, hop}
+use Rattle.hop.specs.Hop.{Air, airOf, flight, hopNext, hopStep, hopFrom, hop}
 use Rattle.hop.specs.declared.Flight.{Flight}
 use Rattle.hop.specs.declared.Way.{Way}
 use Rattle.hop.specs.declared.Way.the-variants.{Arrived, Late}
-use Rattle.roll.specs.Roll.{rollFrom, lastOf, stepOn, heldOf, groundStep}
+use Rattle.roll.specs.Roll.{rollFrom, lastOf, heldOf, groundStep}
 use Rattle.roll.specs.declared.Roll.{Roll}
 use Rattle.roll.specs.declared.Ending.{Ending}
 use Rattle.ground_phase.specs.GroundPhase.{lastPhase, timeUp, groundFrom, ground}
-use Rattle.strike.specs.Strike.{strike, rebounds, diesOut, fly, drop}
+use Rattle.strike.specs.Strike.{strike, rebounds, diesOut, flyBy, fly, drop}
 use Rattle.strike.specs.declared.Struck.{Struck}
 use Rattle.strike.specs.declared.Flown.{Flown}
 use Rattle.strike.specs.declared.Flown.the-variants.{Hop, Ground}
-use Rattle.train.specs.Train.{lastImpact, toGround, trainFrom, train}
+use Rattle.train.specs.Train.{lastImpact, toGround, trainFromBy, trainFrom, train}
 use Rattle.ground.specs.Tests.{refusalOf}
 use Rattle.ground.specs.Settle.{conditionsOf, firstLog, runOf}
 use Rattle.promises.specs.Promises.{got, steps-made}
@@ -205,9 +203,9 @@ module _ (o : Oracle) where
   makes-hopNext f b none = makes-then (when _ _) _ 0 (makes-when _ _ (makes-point b _)) (λ _. makes-pure _)
   makes-hopNext f b (some s) = makes-then (test s) _ 0 (makes-test s) (λ x. makes-pure _)
 
-  makes-hopStep : (c : Conditions) (aero : AeroParams) (f : Flight) → Makes 1 (hopStep c aero f)
+  makes-hopStep : (c : Conditions) (air : Air) (f : Flight) → Makes 1 (hopStep c air f)
   unfolding hopStep
-  makes-hopStep c aero f =
+  makes-hopStep c air f =
       makes-then (makeStep _) _ 1 (makes-count _) (λ s. makes-then (test _) _ 0 (makes-test _) (λ b. makes-then (clearance _) _ 0 (makes-clearance _) (λ end.
       makes-then (hopArrival _ _ _ _) _ 0 (makes-hopArrival _ _ _ _) (makes-hopNext f b))))
 
@@ -264,9 +262,9 @@ module _ (o : Oracle) where
     listed-hop : (start : BallState) → Listed (hop c start) (hopPasses o c start)
     unfolding hop hopFrom hopPasses stepsLeft _>>=_ bind
     listed-hop start l =
-        let aero = fromSpinVector (start .spin) in
-        listed-loop (λ (f : Flight). isLate (f .state .time) (c .«t_end»)) (λ f. pure (Late (f .state))) (hopStep c aero) (inAir aero) (λ f. makes-pure _)
-        (makes-hopStep c aero)
+        let air = airOf c (start .spin) in
+        listed-loop (λ (f : Flight). isLate (f .state .time) (c .«t_end»)) (λ f. pure (Late (f .state))) (hopStep c air) (inAir air) (λ f. makes-pure _)
+        (makes-hopStep c air)
         (c .«step_limit» - l .steps) (flight start _) l
 
     listed-ground : (state : BallState) (s : GroundSample) → Listed (ground c state s) (groundPasses o c state s)
@@ -286,7 +284,7 @@ module _ (o : Oracle) where
         makes-if 0 _ _ (diesOut c state hit b) (makes-pure _) (makes-then (truncate m) _ 0 (makes-truncate m) (λ _. makes-pure _))
 
     listed-fly : (hops : Bool) (state : BallState) (hit : Struck) → Listed (fly c hops state hit) (flyPasses o c hops hit)
-    unfolding fly flyPasses
+    unfolding flyBy flyPasses
     listed-fly hops state hit =
         if-listed (not hops) (pure Ground) _ nothing _ (makes-pure Ground)
         (listed-after mark _ _ makes-mark (λ m. listed-after (pushPoint (hit .out) InHop) _ (λ _. hopPasses o c (hit .out)) (makes-point _ _)
@@ -329,7 +327,7 @@ module _ (o : Oracle) where
     listed-flown n h state hit Ground = listed-to-ground state hit
 
     listed-train : (n : ℕ) (state : BallState) → Listed (trainFrom c n state) (trainPasses o c n state)
-    unfolding trainFrom trainPasses
+    unfolding trainFromBy trainPasses
     listed-train zero state =
         listed-after (strike c state) _ _ (makes-strike state) (λ hit.
         if-listed (not (rebounds c hit)) (toGround c state hit) (lastImpact state hit) (toGroundPasses o c state hit) nothing (listed-to-ground state hit)

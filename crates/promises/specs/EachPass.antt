@@ -8,8 +8,7 @@ use Rattle.number.specs.Ops.{_⊗_, dec}
 use Rattle.vector.specs.Vec.{vsub, vscale, vdot, vlength, vnormalize}
 use Rattle.state.specs.declared.BallState.{BallState}
 use Rattle.surface.specs.declared.GroundSample.{GroundSample}
-use Rattle.aero.specs.Aero.{fromSpinVector, radiusOf}
-use Rattle.aero.specs.declared.AeroParams.{AeroParams}
+use Rattle.aero.specs.Aero.{radiusOf}
 use Rattle.aero.specs.declared.BallModel.{BallModel}
 use Rattle.impact.specs.Impact.{grazing, effectiveNormal, impactOf, struck as struckBy}
 use Rattle.contact.specs.Contact.{slipOf}
@@ -20,14 +19,14 @@ use Rattle.tally.specs.Language.{pushContact, mark, truncate, stepsLeft, loop, 
 use Rattle.tally.specs.declared.Conditions.{Conditions}
 use Rattle.tally.specs.Triple.{t-after, t-stop, t-any}
 use Rattle.arrival.specs.RootSearch.{Goes, Gives, given, gives-pure, gives-then, gives-bind}
-use Rattle.hop.specs.Hop.{flight, hopStep, hopFrom, hop}
+use Rattle.hop.specs.Hop.{Air, airOf, flight, hopStep, hopFrom, hop}
 use Rattle.hop.specs.declared.Flight.{Flight}
 use Rattle.hop.specs.declared.Way.{Way}
 use Rattle.hop.specs.declared.Way.the-variants.{Arrived, Late}
 use Rattle.roll.specs.Roll.{rollFrom, groundStep}
 use Rattle.roll.specs.declared.Roll.{Roll}
 use Rattle.roll.specs.declared.Ending.{Ending}
-use Rattle.strike.specs.Strike.{struck, strike, rebounds, diesOut, fly, dropped, drop}
+use Rattle.strike.specs.Strike.{struck, strike, rebounds, diesOut, flyBy, fly, dropped, drop}
 use Rattle.strike.specs.declared.Struck.{Struck}
 use Rattle.strike.specs.declared.Flown.{Flown}
 use Rattle.strike.specs.declared.Flown.the-variants.{Hop, Ground}
@@ -37,7 +36,7 @@ use Rattle.promises.specs.Bracketed.{Timed, Later, HopLeads, GroundLeads
 use Rattle.promises.specs.OnePass.{Paced, either, given-test, time-either, hop-pass, ground-pass}
 
 -- what a part gives is known by more
-gives-map : {A : Type 0} (P Q : A → Type 0) (m : M A) → ((a : A) → P a → Q a) → Gives P m → Gives Q m
+pub gives-map : {A : Type 0} (P Q : A → Type 0) (m : M A) → ((a : A) → P a → Q a) → Gives P m → Gives Q m
 gives-map P Q m f g o = t-after (λ a w p. f a p) (λ n w r. r) (g o)
 
 by-test : {A : Type 0} (P : A → Type 0) (b : Bool) {x y : A} → P x → (b ≡ false → P y) → P (if b then x else y)
@@ -45,7 +44,7 @@ by-test P true p q = p
 by-test P false p q = q refl
 
 -- a pass goes on with I, or ends with R
-abbrev On : {A B : Type 0} → (A → Type 0) → (B → Type 0) → Pass A B → Type 0
+abbrev pub On : {A B : Type 0} → (A → Type 0) → (B → Type 0) → Pass A B → Type 0
 On I R (again a) = I a
 On I R (over b) = R b
 
@@ -64,7 +63,7 @@ module _ (o : Oracle) (P : Made → Type 0) where
 
 module _ {A B : Type 0} (I : A → Type 0) (R : B → Type 0) (late : A → Bool) (pass : A → M (Pass A B))
     (p : (a : A) → I a → late a ≡ false → Gives (On I R) (pass a)) where
-  gives-loop : (atEnd : A → M B) → ((a : A) → I a → Gives R (atEnd a)) → (n : ℕ) (a : A) → I a → Gives R (loop n late atEnd pass a)
+  pub gives-loop : (atEnd : A → M B) → ((a : A) → I a → Gives R (atEnd a)) → (n : ℕ) (a : A) → I a → Gives R (loop n late atEnd pass a)
   unfolding loop
   gives-loop atEnd e zero a i = either (Gives R) (late a) (e a i) (λ o. t-stop (λ w _. tt))
   gives-loop atEnd e (suc n) a i =
@@ -133,10 +132,10 @@ module _ (c : Conditions) (paced : Paced c) where
   abbrev lateRoll : Roll → Bool
   lateRoll g = isLate (g .state .time) (c .«t_end»)
 
-  hop-goes : (aero : AeroParams) (f : Flight) → Timed (f .state) → lateFlight f ≡ false → Gives (On TimedFlight TimedWay) (hopStep c aero f)
-  hop-goes aero f i d =
-      gives-map (HopLeads (Later (f .state .time))) (On TimedFlight TimedWay) (hopStep c aero f) (hop-on (f .state .time))
-      (hop-pass c paced aero f i d .onward)
+  hop-goes : (air : Air) (f : Flight) → Timed (f .state) → lateFlight f ≡ false → Gives (On TimedFlight TimedWay) (hopStep c air f)
+  hop-goes air f i d =
+      gives-map (HopLeads (Later (f .state .time))) (On TimedFlight TimedWay) (hopStep c air f) (hop-on (f .state .time))
+      (hop-pass c paced air f i d .onward)
 
   ground-goes : (g : Roll) → Timed (g .state) → lateRoll g ≡ false → Gives (On TimedRoll (λ _. Unit)) (groundStep c g)
   ground-goes g i d =
@@ -146,13 +145,13 @@ module _ (c : Conditions) (paced : Paced c) where
   hop-gives : (start : BallState) → Timed start → Gives TimedWay (hop c start)
   unfolding hop hopFrom
   hop-gives start i =
-      let aero = fromSpinVector (start .spin) in
+      let air = airOf c (start .spin) in
       gives-bind TimedWay (stepsLeft c) _ (λ n.
-      gives-loop TimedFlight TimedWay lateFlight (hopStep c aero) (hop-goes aero) (λ f. pure (Late (f .state)))
+      gives-loop TimedFlight TimedWay lateFlight (hopStep c air) (hop-goes air) (λ f. pure (Late (f .state)))
       (λ f j. gives-pure TimedWay (Late (f .state)) j) n (flight start _) i)
 
   fly-gives : (hops : Bool) (state : BallState) (hit : Struck) → TimedHit hit → Gives TimedFlown (fly c hops state hit)
-  unfolding fly
+  unfolding flyBy
   fly-gives hops state hit i =
       either (Gives TimedFlown) (not hops) (gives-pure TimedFlown Ground tt)
       (gives-bind TimedFlown mark _ (λ m. gives-bind TimedFlown (pushPoint _ _) _ (λ _. gives-then TimedWay TimedFlown (hop c (hit .out)) _ (λ w. elim w [
@@ -177,8 +176,8 @@ module _ (c : Conditions) (paced : Paced c) where
     each-hop : (start : BallState) → Timed start → (l : Log) → Each (Bracketed c) (hopPasses o c start l)
     unfolding hopPasses
     each-hop start i l =
-        let aero = fromSpinVector (start .spin) in
-        each-loop TimedFlight TimedWay lateFlight (hopStep c aero) (hop-goes aero) o (Bracketed c) (inAir aero) (hop-pass c paced aero)
+        let air = airOf c (start .spin) in
+        each-loop TimedFlight TimedWay lateFlight (hopStep c air) (hop-goes air) o (Bracketed c) (inAir air) (hop-pass c paced air)
         (c .«step_limit» - l .steps) (flight start _) i l
 
     each-ground : (state : BallState) (s : GroundSample) → Timed state → (l : Log) → Each (Bracketed c) (groundPasses o c state s l)

@@ -22,3 +22,5 @@ pub mod Walked
 pub mod Told
 pub mod Retold
 pub mod History
+pub mod Alike
+pub mod Factor

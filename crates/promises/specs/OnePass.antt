@@ -16,14 +16,13 @@ use Rattle.state.specs.declared.BallState.{BallState}
 use Rattle.state.specs.State.{stateOk}
 use Rattle.surface.specs.declared.GroundSample.{GroundSample}
 use Rattle.aero.specs.Aero.{radiusOf}
-use Rattle.aero.specs.declared.AeroParams.{AeroParams}
 use Rattle.search.specs.Evaluations.{largest}
 use Rattle.slide.specs.RootSearch.{slide-time-within}
 use Rattle.rolling.specs.Times.{contact-step-onward}
 use Rattle.contact.specs.Contact.{ontoOf}
-use Rattle.look.specs.Tree.{Made, run, bind}
+use Rattle.look.specs.Tree.{Made}
 use Rattle.tally.specs.Times.{timeEps, isLate}
-use Rattle.tally.specs.Language.{stepped, tested, M, onward, _>>=_, if_then_else_, when, look, test, pushPoint, makeStep, Pass, again, over}
+use Rattle.tally.specs.Language.{M, onward, _>>=_, if_then_else_, when, look, test, pushPoint, makeStep, Pass, again, over}
 use Rattle.tally.specs.declared.Conditions.{Conditions}
 use Rattle.arrival.specs.declared.Arc.{Arc}
 use Rattle.arrival.specs.Arrival.{clearance, hopArrival}
@@ -32,7 +31,7 @@ use Rattle.arrival.specs.RootSearch.{at-most-200-looks, Gives, gives-pure, give
 use Rattle.arrival.specs.FirstCrossing.{IfSome}
 use Rattle.arrival.specs.Evaluations.{arrival-at-most-200}
 use Rattle.arrival.specs.ArrivalTime.{ArrivesIn, arrival-within}
-use Rattle.hop.specs.Hop.{flight, stepArc, stepEnd, hopNext, hopStep}
+use Rattle.hop.specs.Hop.{Air, flight, stepArc, stepEnd, hopNext, hopStep}
 use Rattle.hop.specs.declared.Flight.{Flight}
 use Rattle.hop.specs.declared.Way.{Way}
 use Rattle.hop.specs.declared.Way.the-variants.{Arrived}
@@ -42,7 +41,7 @@ use Rattle.roll.specs.declared.Roll.{Roll}
 use Rattle.roll.specs.declared.Ending.{Ending}
 use Rattle.promises.specs.Finite.{state-finite}
 use Rattle.promises.specs.Bracketed.{Timed, Later, HopLeads, GroundLeads, HopBracket, GroundBracket}
-use Prim.Native.Nat.{ℕ, zero}
+use Prim.Native.Nat.{zero}
 use Rattle.shot.specs.declared.Shot.{Shot}
 use Rattle.shot.specs.declared.GroundPhysics.{GroundPhysics}
 use Rattle.shot.specs.Tests.{stepPhysicsOk, physicsOk, vecAbout, landingOk}
@@ -121,9 +120,9 @@ module _ (c : Conditions) (paced : Paced c) where
 
   -- ---- a hop's
 
-  module _ (aero : AeroParams) (f : Flight) (timed : Timed (f .state)) (due : isLate (f .state .time) (c .«t_end») ≡ false) where
+  module _ (air : Air) (f : Flight) (timed : Timed (f .state)) (due : isLate (f .state .time) (c .«t_end») ≡ false) where
     abbrev arc : Arc
-    arc = stepArc c aero (f .state)
+    arc = stepArc c (air .aero) (f .state)
 
     abbrev t : Float
     t = f .state .time
@@ -146,16 +145,16 @@ module _ (c : Conditions) (paced : Paced c) where
         given-test Leads s _ (λ ok. gives-pure Leads (over (Arrived s))
         (later (f .state) timed due s (record { by = tau; forth = not-below tau (within-lo (dec 0 1) (arc .h) tau (u .within)); is = u .is }) ok))
 
-    hop-leads : Gives Leads (hopStep c aero f)
+    hop-leads : Gives Leads (hopStep c air f)
     unfolding hopStep stepEnd
     hop-leads =
-        given-made Leads _ _ (given-test Leads (stepEnd c arc (f .state)) _ (λ ok. gives-bind Leads (clearance _) _ (λ end.
+        given-made Leads _ _ (given-test Leads (stepEnd (air .after) arc (f .state)) _ (λ ok. gives-bind Leads (clearance _) _ (λ end.
         gives-then (IfSome (ArrivesIn t (arc .h))) Leads (hopArrival arc t end (f .state .spin)) _
-        (next-leads (stepEnd c arc (f .state))
-        (later (f .state) timed due (stepEnd c arc (f .state))
+        (next-leads (stepEnd (air .after) arc (f .state))
+        (later (f .state) timed due (stepEnd (air .after) arc (f .state))
         (record { by = arc .h; forth = not-below (arc .h) (lt-le (dec 0 1) (arc .h) (hop-step .0 .above-0)); is = refl }) ok)) (arrives end))))
 
-    pub hop-pass : HopBracket c aero f
+    pub hop-pass : HopBracket c air f
     hop-pass = record {
       step = hop-step .0;
       arrival = arrives;

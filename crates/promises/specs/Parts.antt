@@ -28,28 +28,25 @@ use Rattle.tally.specs.declared.Conditions.{Conditions}
 use Rattle.arrival.specs.Arrival.{arcOf, clearance, clearanceAt, subStep, crossingFrom, firstCrossing, endValue, crossingTime, placed, hopArrival}
 use Rattle.arrival.specs.FirstCrossing.{IfSome}
 use Rattle.arrival.specs.declared.Arc.{Arc}
-use Rattle.hop.specs.Hop.{spinAfter, aeroFor, stepArc, stepEnd, hopNext, hopStep, hopFrom, hop}
+use Rattle.hop.specs.Hop.{spinAfter, aeroFor, airOf, stepArc, stepEnd, hopNext, hopStep, hopFrom, hop}
 use Rattle.hop.specs.declared.Flight.{Flight}
 use Rattle.hop.specs.declared.Way.{Way}
 use Rattle.hop.specs.declared.Way.the-variants.{Arrived, Late}
 use Rattle.vector.specs.Vec.{vadd, vsub, vscale, vdot, vlength, vnormalize, sameVec}
 use Rattle.impact.specs.Impact.{effectiveNormal, impactOf, struck as hitBy}
 use Rattle.contact.specs.Contact.{slipOf, ontoOf}
-use Rattle.rolling.specs.declared.Stepped.{Stepped}
 use Rattle.aero.specs.declared.BallModel.{BallModel}
 use Rattle.roll.specs.Roll.{groundStep, heldOf, stepOn, putDown}
 use Rattle.roll.specs.declared.Roll.{Roll}
 use Rattle.roll.specs.declared.Ending.{Ending}
-use Rattle.state.specs.declared.Termination.{Termination}
-use Rattle.state.specs.declared.Termination.the-variants.{Nothing, Rest, MaxTime, MaxImpacts}
 use Rattle.ground_phase.specs.GroundPhase.{timeUp, groundFrom, ground}
-use Rattle.strike.specs.Strike.{strike, rebounds, diesOut, fly, dropped, drop}
+use Rattle.strike.specs.Strike.{strike, rebounds, diesOut, flyBy, fly, dropped, drop}
 use Rattle.strike.specs.declared.Struck.{Struck}
 use Rattle.strike.specs.declared.Flown.{Flown}
 use Rattle.strike.specs.declared.Flown.the-variants.{Hop, Ground}
-use Rattle.train.specs.Train.{lastImpact, toGround, trainFrom, train}
-use Rattle.tally.specs.Triple.{t-made, t-evaluation, evaluatedOnce, Past, After, OnWith, Triple, t-before, t-after, t-bind, t-then, t-fact, t-know, t-of, t-if, t-pure, t-same, t-loop}
-use Rattle.promises.specs.Terms.{Answer, SampleOf, Ok, OverDoubles, under, Placed, GivenBy, struckAt, arcFrom, Grounded, at-once, after-hop}
+use Rattle.train.specs.Train.{lastImpact, toGround, trainFromBy, trainFrom, train}
+use Rattle.tally.specs.Triple.{t-made, t-evaluation, evaluatedOnce, Past, OnWith, Triple, t-before, t-after, t-bind, t-then, t-fact, t-know, t-of, t-if, t-pure, t-same, t-loop}
+use Rattle.promises.specs.Terms.{Answer, SampleOf, Ok, OverDoubles, under, Placed, GivenBy, struckAt, arcFrom, endFrom, Grounded, at-once, after-hop}
 use Rattle.promises.specs.Terms.{impact, hop-step, arrival, drop as dropping, ground-step, on-path, below-step}
 use Rattle.promises.specs.Keeps.{Setting, Keeps, At, Within, at-ok, at-frame, t-given}
 use Rattle.promises.specs.Keeps.{over-doubles, a-look, a-look-own, a-evaluation, a-test, a-point-own, a-contact, a-mark, a-truncate, a-when, a-step, a-left, a-limit}
@@ -144,7 +141,7 @@ pub record SameSpot (a b : BallState) : Type 0 where
 same : (s : BallState) → SameSpot s s
 same s = record { x = refl; z = refl }
 
-one-of : (P : BallState → Type 0) (b : Bool) (x y : BallState) → P x → P y → P (cond b x y)
+pub one-of : (P : BallState → Type 0) (b : Bool) (x y : BallState) → P x → P y → P (cond b x y)
 one-of P true x y p q = p
 one-of P false x y p q = q
 
@@ -175,7 +172,7 @@ same-over : {a b : BallState} → SameSpot a b → OverDoubles b → OverDoubles
 same-over h d = (rw (h .x) (d .0), rw (h .z) (d .1))
 
 -- a hop step ends over doubles: the last thing that it does is a sum
-step-over : (o : Oracle) (c : Conditions) (s : BallState) → OverDoubles (stepEnd c (arcFrom o c s) s)
+step-over : (o : Oracle) (c : Conditions) (s : BallState) → OverDoubles (endFrom o c s)
 unfolding stepEnd stepArc stepOf weightedIn vadd
 step-over o c s = (add-fits binary64 _ _, add-fits binary64 _ _)
 
@@ -197,6 +194,9 @@ module _ (e : Setting) where
   abbrev arcOn : BallState → Arc
   arcOn s = arcFrom (e .course) c s
 
+  abbrev endOf : BallState → BallState
+  endOf s = endFrom (e .course) c s
+
   abbrev endOn : BallState → Float
   endOn b = b .pos .y ⊖ under (e .course) b .height
 
@@ -204,11 +204,11 @@ module _ (e : Setting) where
   abbrev Own : DVec3 → BallState → Type 0
   Own spin s = aeroFor (c .fading) (fromSpinVector spin) (s .spin) ≡ fromSpinVector (s .spin)
 
-  own-arc : (spin : DVec3) (s : BallState) → Own spin s → stepArc c (fromSpinVector spin) s ≡ arcOn s
+  own-arc : (spin : DVec3) (s : BallState) → Own spin s → stepArc c (airOf c spin .aero) s ≡ arcOn s
   unfolding stepArc
-  own-arc spin s h = rw (h, own-self (c .fading) (s .spin))
+  own-arc spin s h = rw h
 
-  own-next : (spin : DVec3) (s : BallState) → Own spin s → Own spin (stepEnd c (arcOn s) s)
+  own-next : (spin : DVec3) (s : BallState) → Own spin s → Own spin (endOf s)
   unfolding stepEnd
   own-next spin s h = own-kept (c .fading) (fromSpinVector spin) _ (s .spin) h
 
@@ -235,7 +235,7 @@ module _ (e : Setting) where
     abbrev Flew : Way → Past → Type 0
     Flew way = Only (stateOf way)
 
-    f-hopNext : (spin : DVec3) (n : ℕ) (f : Flight) (b : BallState) → Own spin (f .state) → Ok (f .state) → b ≡ stepEnd c (arcOn (f .state)) (f .state)
+    f-hopNext : (spin : DVec3) (n : ℕ) (f : Flight) (b : BallState) → Own spin (f .state) → Ok (f .state) → b ≡ endOf (f .state)
         → (a : Option BallState) → Arrives a → GivenBy (e .course) (hopArrival (arcOn (f .state)) (f .state .time) (endOn b) (f .state .spin)) a
         → Keeps e (At e (Within e n G) b) (hopNext f b a) (OnWith (Flying spin n) Flew)
     unfolding hopNext
@@ -243,14 +243,14 @@ module _ (e : Setting) where
         t-then (a-test s (arrival (f .state) ok d l) (λ _ _. on)) (λ x _. t-pure (λ w a. at-frame (λ j k h. h .1) a))
     f-hopNext spin n f b own ok d none on l = t-bind (a-when _ (a-point-own _)) (λ x. t-pure (λ w a. (a, rw d (own-next spin (f .state) own))))
 
-    f-arrival : (n : ℕ) (f : Flight) (b : BallState) → Ok (f .state) → b ≡ stepEnd c (arcOn (f .state)) (f .state) → (end : Float)
+    f-arrival : (n : ℕ) (f : Flight) (b : BallState) → Ok (f .state) → b ≡ endOf (f .state) → (end : Float)
         → let m = hopArrival (arcOn (f .state)) (f .state .time) end (f .state .spin) in
         Keeps e (At e (Within e n G) b) m (λ a w. At e (Within e n G) b w × (Arrives a × GivenBy (e .course) m a))
     f-arrival n f b ok d end =
         t-after (λ a w h. (h .0 .0, (h .0 .1, h .1))) (λ n w h. h)
         (t-given (l-hopArrival _ (λ tau. a-look _ _ (on-path (f .state) ok d tau refl)) a-evaluation _ _ _))
 
-    f-hopStep : (spin : DVec3) (n : ℕ) (f : Flight) → Keeps e (Flying spin (suc n) f) (hopStep c (fromSpinVector spin) f) (OnWith (Flying spin n) Flew)
+    f-hopStep : (spin : DVec3) (n : ℕ) (f : Flight) → Keeps e (Flying spin (suc n) f) (hopStep c (airOf c spin) f) (OnWith (Flying spin n) Flew)
     unfolding hopStep
     f-hopStep spin n f = t-fact (λ h. rw (own-arc spin (f .state) h) (t-know (λ w. at-ok) (λ ok. t-made _ _ (a-step n _)
         (t-then (a-test _ (hop-step refl) (λ _ _. step-over (e .course) c (f .state))) (λ b d.
@@ -308,7 +308,7 @@ module _ (e : Setting) where
     own out g d w a = (record { sound = a .sound; frame = a .frame; good = refl; over = rw (a .good) (a .over); on = a .on }, rw (a .good) d)
 
     f-fly : (hops : Bool) (state : BallState) (hit : Struck) → Keeps e (Only (hit .out)) (fly c hops state hit) (Flown-from (hit .out))
-    unfolding fly
+    unfolding flyBy
     f-fly hops state hit = t-if (not hops) (λ _. t-pure (own _ _ (at-once refl))) (λ _.
         t-bind a-mark (λ m. t-bind (a-point-own _) (λ _. t-then (t-given (f-hop _)) (elim [
           | Late b ↦ λ l. t-pure (λ w a. a)
@@ -361,7 +361,7 @@ module _ (e : Setting) where
     f-lastImpact = t-bind (t-know (λ w. at-ok) (f-contact (Room (suc n)) (last n) s ok hit h _)) (λ _. t-bind (a-point-own _) (λ _. t-pure (λ w a. (a, refl))))
 
   f-trainFrom : (n : ℕ) (s : BallState) → Keeps e (Only (Room (suc n)) s) (trainFrom c n s) Ended
-  unfolding trainFrom
+  unfolding trainFromBy
   f-trainFrom zero s = t-know (λ w. at-ok) (λ ok. t-know (λ w a. a .over) (λ so. t-then (f-strike (Room 1) s) (λ hit h.
       t-if (not (rebounds c hit)) (λ _. f-toGround s ok hit h 0 so (at-once refl)) (λ _. f-lastImpact s ok hit h 0))))
   f-trainFrom (suc n) s = t-know (λ w. at-ok) (λ ok. t-know (λ w a. a .over) (λ so. t-then (f-strike (Room (suc (suc n))) s) (λ hit h.

@@ -3,20 +3,17 @@
 use Prim.Native.Nat.{ℕ, zero, suc, _-_}
 use mathlib.Core.Bool.{Bool, not}
 use mathlib.Core.List.{List, [], _∷_, _++_}
-use lib.Ieee.{Float}
 use Rattle.number.specs.Ops.{_⊕_}
 use Rattle.state.specs.declared.BallState.{BallState}
 use Rattle.state.specs.declared.Phase.the-variants.{Hop as InHop}
 use Rattle.surface.specs.declared.GroundSample.{GroundSample}
-use Rattle.aero.specs.Aero.{fromSpinVector}
-use Rattle.aero.specs.declared.AeroParams.{AeroParams}
 use Rattle.look.specs.Tree.{Oracle, run}
 use Rattle.course.specs.Sheet.{courseOf}
 use Rattle.tally.specs.Times.{sampleInterval, isLate}
 use Rattle.tally.specs.Language.{M, Log, Outcome, goes, stops, if_then_else_, mark, pushPoint, pushContact, Pass, again, over}
 use Rattle.tally.specs.declared.Conditions.{Conditions}
 use Rattle.shot.specs.declared.Shot.{Shot}
-use Rattle.hop.specs.Hop.{flight, hopStep}
+use Rattle.hop.specs.Hop.{Air, airOf, flight, hopStep}
 use Rattle.hop.specs.declared.Flight.{Flight}
 use Rattle.hop.specs.declared.Way.the-variants.{Arrived, Late}
 use Rattle.roll.specs.Roll.{rollFrom, groundStep}
@@ -28,7 +25,7 @@ use Rattle.ground.specs.Settle.{conditionsOf, firstLog}
 
 -- a pass that was made: of a hop, or of the ground
 pub data Made : Type 0 where
-  inAir : AeroParams → Flight → Made
+  inAir : Air → Flight → Made
   onGround : Roll → Made
 
 abbrev pub none : Log → List Made
@@ -54,8 +51,8 @@ module _ (o : Oracle) where
     -- Hop, `hop`
     unfoldable pub hopPasses : BallState → Log → List Made
     hopPasses start l =
-        let aero = fromSpinVector start.spin in
-        loopPasses (λ f. isLate f.state.time c.«t_end») (hopStep c aero) (inAir aero) (c.«step_limit» - l.steps)
+        let air = airOf c start.spin in
+        loopPasses (λ f. isLate f.state.time c.«t_end») (hopStep c air) (inAir air) (c.«step_limit» - l.steps)
         (flight start (start.time ⊕ sampleInterval)) l
 
     -- GroundPhase, `ground`

@@ -32,7 +32,7 @@ use Rattle.ground.specs.Tests.{refusalOf}
 use Rattle.roll.specs.Roll.{stepOn, putDown, groundStep}
 use Rattle.ground_phase.specs.GroundPhase.{groundFrom, ground}
 use Rattle.strike.specs.Strike.{strike, rebounds, dropped, drop}
-use Rattle.train.specs.Train.{toGround, trainFrom, train}
+use Rattle.train.specs.Train.{toGround, trainFromBy, train}
 use Rattle.tally.specs.Language.{pushPoint, stepsLeft}
 use Rattle.ground.specs.Passed.{refused-by, settle-sheet, settle-passes}
 use Rattle.ground.specs.Settle.{Result, noState, reportOf, conditionsOf, runOf, settleOf}
@@ -278,6 +278,6 @@ allowing n s = record {
 -- 01: "max_impacts 0 acts as 1": of every call, refused ones too
 pub zero-as-one : (sheet : List ℕ) (shot : Shot) (cs ps : List Float)
     → settleOf sheet (allowing 0 shot) cs ps ≡ settleOf sheet (allowing 1 shot) cs ps
-unfolding settleOf refusalOf inputTest physicsOk runOf conditionsOf train trainFrom strike rebounds
+unfolding settleOf refusalOf inputTest physicsOk runOf conditionsOf train trainFromBy strike rebounds
     toGround drop dropped ground groundFrom groundStep stepOn putDown stepsLeft
 zero-as-one sheet shot cs ps = refl

@@ -26,7 +26,7 @@ use Rattle.tally.specs.Language.{M, Log, goes, pointOf, contactOf}
 use Rattle.tally.specs.declared.Conditions.{Conditions}
 use Rattle.arrival.specs.Arrival.{arcOf, hopArrival}
 use Rattle.arrival.specs.declared.Arc.{Arc}
-use Rattle.hop.specs.Hop.{stepArc, stepEnd, hop}
+use Rattle.hop.specs.Hop.{spinAfter, stepArc, stepEnd, hop}
 use Rattle.hop.specs.declared.Way.the-variants.{Arrived}
 use Rattle.roll.specs.Roll.{stepOn, putDown}
 use Rattle.roll.specs.declared.Roll.{Roll}
@@ -113,7 +113,11 @@ module _ (o : Oracle) where
 
     -- the arc of the hop step from a state
     abbrev pub arcFrom : BallState → Arc
-    arcFrom s = stepArc c (fromSpinVector (s .spin)) s
+    arcFrom s = stepArc c fromSpinVector s
+
+    -- and the state at its end
+    abbrev pub endFrom : BallState → BallState
+    endFrom s = stepEnd (spinAfter (c .fading)) (arcFrom s) s
 
     -- the last state that passed, g, where a ball drops to the ground after an impact that it left as out: out itself, or the arrival of the hop from out
     pub data Grounded (out g : BallState) : Type 0 where
@@ -124,9 +128,9 @@ module _ (o : Oracle) where
     -- ground step"
     pub data Follows (g s : BallState) : Type 0 where
       impact : s ≡ impactOf g (under g) (c .ball) → Follows g s
-      hop-step : s ≡ stepEnd c (arcFrom g) g → Follows g s
+      hop-step : s ≡ endFrom g → Follows g s
       -- the arrival in the hop step from f, which ended at g
-      arrival : (f : BallState) → Ok f → g ≡ stepEnd c (arcFrom f) f
+      arrival : (f : BallState) → Ok f → g ≡ endFrom f
           → GivenBy (hopArrival (arcFrom f) (f .time) (g .pos .y ⊖ under g .height) (f .spin)) (some s) → Follows g s
       -- the drop after the impact of f
       drop : (f : BallState) → Ok f → Grounded (struckAt f .out) g → s ≡ dropped c (struckAt f) → Follows g s
@@ -136,7 +140,7 @@ module _ (o : Oracle) where
     -- the looks whose spot p may fail its test, where g is the last state that passed: on the path of the hop step from f, which ended at g; and
     -- where the ground step from g, on the ground under it, came to. An impact, a hop step's end and a push look at g's own spot, which passes
     pub data Sought (g : BallState) (p : Spot) : Type 0 where
-      on-path : (f : BallState) → Ok f → g ≡ stepEnd c (arcFrom f) f → (tau : Float) → p ≡ spotUnder (arcOf (arcFrom f) tau .pos) → Sought g p
+      on-path : (f : BallState) → Ok f → g ≡ endFrom f → (tau : Float) → p ≡ spotUnder (arcOf (arcFrom f) tau .pos) → Sought g p
       below-step : (r : Roll) → r .state ≡ g → r .«at» ≡ under g → p ≡ spotUnder (stepOn c r .state .pos) → Sought g p
 
     -- the test that failed: of a spot, the one that failed; or of a state that followed the last good one, each spot having passed

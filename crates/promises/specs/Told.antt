@@ -22,11 +22,11 @@ use Rattle.hop.specs.declared.Way.{Way}
 use Rattle.hop.specs.declared.Way.the-variants.{Arrived, Late}
 use Rattle.roll.specs.declared.Ending.{Ending}
 use Rattle.ground_phase.specs.GroundPhase.{timeUp, ground}
-use Rattle.strike.specs.Strike.{struck, strike, rebounds, diesOut, fly, dropped, drop}
+use Rattle.strike.specs.Strike.{struck, strike, rebounds, diesOut, flyBy, fly, dropped, drop}
 use Rattle.strike.specs.declared.Struck.{Struck}
 use Rattle.strike.specs.declared.Flown.{Flown}
 use Rattle.strike.specs.declared.Flown.the-variants.{Hop, Ground}
-use Rattle.train.specs.Train.{lastImpact, toGround, trainFrom, train}
+use Rattle.train.specs.Train.{lastImpact, toGround, trainFromBy, trainFrom, train}
 use Rattle.promises.specs.Terms.{Ok, under, Placed}
 use Rattle.promises.specs.Finite.{state-finite}
 use Rattle.promises.specs.Bracketed.{Timed, Later}
@@ -160,7 +160,7 @@ module _ (o : Oracle) (c : Conditions) (paced : Paced c) (most : ℕ) (start : F
     FlownTo Ground w = To K (hit .out .time) w
 
     t-fly : (hops : Bool) → Triple o (To K (hit .out .time)) (fly c hops s hit) FlownTo Any
-    unfolding fly
+    unfolding flyBy
     t-fly hops =
         let t₀ = hit .out .time in
         t-if (not hops) (λ _. t-pure (λ w a. a)) (λ _.
@@ -251,7 +251,7 @@ module _ (o : Oracle) (c : Conditions) (paced : Paced c) (most : ℕ) (start : F
         (g-timeUp o c paced (points (After (suc n) (s .time))) (points-carry (After (suc n) (s .time))) b InHop (l .0 .timed))
 
   t-trainFrom : (n : ℕ) → Trains n
-  unfolding trainFrom
+  unfolding trainFromBy
   t-trainFrom zero s i = t-then (t-strike (Before 1 s) s i) (λ hit h.
       t-if (not (rebounds c hit)) (λ _. t-toGround s i hit h 0) (λ _. t-lastImpact s i hit h))
   t-trainFrom (suc n) s i = t-then (t-strike (Before (suc (suc n)) s) s i) (λ hit h. t-bind (t-fly (Before (suc (suc n)) s) s hit h _) (elim [

@@ -17,8 +17,7 @@ use Rattle.state.specs.declared.Phase.the-variants.{Hop as InHop, Roll as InRol
 use Rattle.state.specs.declared.Termination.{Termination}
 use Rattle.state.specs.declared.Termination.the-variants.{Nothing, Rest, MaxTime, MaxImpacts}
 use Rattle.surface.specs.declared.GroundSample.{GroundSample}
-use Rattle.aero.specs.Aero.{fromSpinVector, radiusOf}
-use Rattle.aero.specs.declared.AeroParams.{AeroParams}
+use Rattle.aero.specs.Aero.{radiusOf}
 use Rattle.look.specs.Rect.{spotOk}
 use Rattle.look.specs.Tree.{Made, Oracle}
 use Rattle.records.specs.Records.{Records}
@@ -32,7 +31,7 @@ use Rattle.tally.specs.Triple.{Past, OnWith, Triple, t-before, t-after, t-bind,
 use Rattle.tally.specs.Triple.{t-made, t-left, t-when, t-loop-due}
 use Rattle.arrival.specs.RootSearch.{Gives}
 use Rattle.arrival.specs.FirstCrossing.{IfSome}
-use Rattle.hop.specs.Hop.{hopNext, hopStep, hopFrom, hop}
+use Rattle.hop.specs.Hop.{Air, airOf, hopNext, hopStep, hopFrom, hop}
 use Rattle.hop.specs.declared.Flight.{Flight}
 use Rattle.hop.specs.declared.Way.{Way}
 use Rattle.hop.specs.declared.Way.the-variants.{Arrived, Late}
@@ -195,9 +194,9 @@ module _ (o : Oracle) (c : Conditions) (paced : Paced c) where
         push : Triple o (At t) (pushPoint b InHop) (λ _. Onto t b) Any
         push = t-point b InHop (λ w h _ _ l. carries .more b InHop _ _ _ (l .timed) (on-later t b w h l)) (λ w h _ _. tt) (λ w h _. tt)
 
-    h-step : (aero : AeroParams) (f : Flight) → Triple o (At (f .state .time)) (hopStep c aero f) (Hopped (f .state .time)) Any
+    h-step : (air : Air) (f : Flight) → Triple o (At (f .state .time)) (hopStep c air f) (Hopped (f .state .time)) Any
     unfolding hopStep
-    h-step aero f = t-made _ _ (t-step _ (λ w h. h)) (t-then (w-test (to (f .state .time)) _) (λ b h.
+    h-step air f = t-made _ _ (t-step _ (λ w h. h)) (t-then (w-test (to (f .state .time)) _) (λ b h.
         t-then (l-clearance _ (w-look (to (f .state .time)) _ _)) (λ end _.
         t-then (l-arrival _ (λ tau. w-look-ok (to (f .state .time)) _ _) (λ w h. h) _ _ _) (λ a p. h-next (f .state .time) f b a (p .1)))))
 
@@ -211,10 +210,10 @@ module _ (o : Oracle) (c : Conditions) (paced : Paced c) where
     since : (t₀ t : Float) (s : BallState) → T (le t₀ t) → Later t s → Later t₀ s
     since t₀ t s l h = record { timed = h .timed; later = le-through t₀ t (s .time) l (h .later) }
 
-    h-pass : (t₀ : Float) (aero : AeroParams) (n : ℕ) (f : Flight) → isLate (f .state .time) (c .«t_end») ≡ false
-        → Triple o (Flying t₀ (suc n) f) (hopStep c aero f) (OnWith (Flying t₀ n) (Flew t₀)) Any
-    h-pass t₀ aero n f due = t-know (λ w h. h .1) (λ l. t-before (λ w h. h .0) (t-after (on l) (λ n w h. h)
-        (t-gives (h-step aero f) (hop-pass c paced aero f (l .timed) due .onward))))
+    h-pass : (t₀ : Float) (air : Air) (n : ℕ) (f : Flight) → isLate (f .state .time) (c .«t_end») ≡ false
+        → Triple o (Flying t₀ (suc n) f) (hopStep c air f) (OnWith (Flying t₀ n) (Flew t₀)) Any
+    h-pass t₀ air n f due = t-know (λ w h. h .1) (λ l. t-before (λ w h. h .0) (t-after (on l) (λ n w h. h)
+        (t-gives (h-step air f) (hop-pass c paced air f (l .timed) due .onward))))
       where
         on : Later t₀ (f .state) → (x : Pass Flight Way) (w : Past) → Hopped (f .state .time) x w × HopLeads (Later (f .state .time)) x
             → OnWith (Flying t₀ n) (Flew t₀) x w
@@ -225,7 +224,7 @@ module _ (o : Oracle) (c : Conditions) (paced : Paced c) where
     pub h-hop : (start : BallState) → Timed start → Triple o (At (start .time)) (hop c start) (Flew (start .time)) Any
     unfolding hop hopFrom
     h-hop start i = t-bind (w-left (to (start .time)) c) (λ n. t-before (λ w h. (h, first)) (t-loop-due _ _ _ (Flying (start .time)) (Flew (start .time))
-        (λ n f. t-pure (λ w h. (h .0, (h .1, tt)))) (λ f w h. tt) (h-pass (start .time) (fromSpinVector (start .spin))) n _))
+        (λ n f. t-pure (λ w h. (h .0, (h .1, tt)))) (λ f w h. tt) (h-pass (start .time) (airOf c (start .spin))) n _))
       where
         first : Later (start .time) start
         first = record { timed = i; later = le-self (start .time) (state-finite start (i .ok) .time) }

@@ -1,24 +1,21 @@
 -- Lemmas. A run counts at most 200 evaluations a step: a pass makes one search, or none.
-use Prim.Native.Nat.{ℕ, suc, _+_, _*_, _≤_}
+use Prim.Native.Nat.{ℕ, _+_, _*_, _≤_}
 use native.Mathlib.Omega.{arith}
 use mathlib.Core.Path.{_≡_, refl}
-use mathlib.Core.Bool.{Bool, not}
+use mathlib.Core.Bool.{not}
 use mathlib.Core.Option.{Option, none, some}
 use lib.Ieee.{Float}
 use Rattle.vector.specs.declared.DVec3.{DVec3}
 use Rattle.state.specs.declared.BallState.{BallState}
-use Rattle.aero.specs.declared.AeroParams.{AeroParams}
 use Rattle.look.specs.Tree.{Oracle}
-use Rattle.tally.specs.Times.{isDue}
-use Rattle.tally.specs.Language.{M, Pass}
-use Rattle.tally.specs.Triple.{Past, Triple, t-before, t-after, t-both, t-bind, t-then, t-of, t-fact, t-if, t-pure, t-same, t-when, t-look, t-step, t-made}
+use Rattle.tally.specs.Language.{M}
+use Rattle.tally.specs.Triple.{Past, Triple, t-before, t-after, t-both, t-bind, t-of, t-fact, t-if, t-same, t-when, t-look, t-step, t-made}
 use Rattle.tally.specs.declared.Conditions.{Conditions}
 use Rattle.arrival.specs.declared.Arc.{Arc}
 use Rattle.arrival.specs.Arrival.{clearance, hopArrival}
 use Rattle.arrival.specs.Evaluations.{arrival-at-most-200}
-use Rattle.hop.specs.Hop.{stepArc, hopNext, hopStep}
+use Rattle.hop.specs.Hop.{Air, hopNext, hopStep}
 use Rattle.hop.specs.declared.Flight.{Flight}
-use Rattle.hop.specs.declared.Way.{Way}
 use Rattle.roll.specs.Roll.{stepOn, heldOf, groundStep}
 use Rattle.roll.specs.Evaluations.{pass-at-most-200}
 use Rattle.roll.specs.declared.Roll.{Roll}
@@ -66,9 +63,9 @@ module _ (o : Oracle) where
   next f b (some s) = t-bind (w-test (words 0) s) (λ s. t-same)
   next f b none = t-bind (t-when _ (w-point (words 0) b _) (λ w h. h)) (λ _. t-same)
 
-  hop-pass : (c : Conditions) (aero : AeroParams) (f : Flight) → Holds o (Spare 0) (hopStep c aero f)
+  hop-pass : (c : Conditions) (air : Air) (f : Flight) → Holds o (Spare 0) (hopStep c air f)
   unfolding hopStep clearance
-  hop-pass c aero f = t-made _ _ (t-step _ (λ w h. omega (arith, h))) (t-bind (spared (w-test (words 200) _)) (λ b.
+  hop-pass c air f = t-made _ _ (t-step _ (λ w h. omega (arith, h))) (t-bind (spared (w-test (words 200) _)) (λ b.
       t-bind (t-bind (spared (w-look (words 200) _ _)) (λ s. t-same)) (λ end. t-bind (arrives _ _ end _) (next f b))))
 
   -- ---- the ground's

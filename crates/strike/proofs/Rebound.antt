@@ -14,7 +14,7 @@ use Rattle.tally.proofs.Reached.{begun, marked, if-taken, if-left}
 use Rattle.hop.specs.Hop.{hop}
 use Rattle.hop.specs.declared.Way.{Way}
 use Rattle.hop.specs.declared.Way.the-variants.{Arrived, Late}
-use Rattle.strike.specs.Strike.{diesOut, fly}
+use Rattle.strike.specs.Strike.{diesOut, flyBy, fly}
 use Rattle.strike.specs.declared.Struck.{Struck}
 use Rattle.strike.specs.declared.Flown.{Flown}
 use Rattle.strike.specs.declared.Flown.the-variants.{Hop, Ground}
@@ -38,7 +38,7 @@ module _ (c : Conditions) (state : BallState) (hit : Struck) (m : ℕ) where
 -- the ball rebounds
 pub flying : {o : Oracle} {a : Place} (c : Conditions) (hops : Bool) (state : BallState) (hit : Struck) → not hops ≡ false
     → Reached o (fly c hops state hit) a 0 (toPush c state hit (a .tally .points)) a
-unfolding fly
+unfolding flyBy
 flying c hops state hit e = marked _ (if-left _ _ _ begun refl e)
 
 -- where the hop came to

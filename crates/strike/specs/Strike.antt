@@ -13,6 +13,7 @@ use Rattle.state.specs.declared.Phase.the-variants.{Hop as InHop}
 use Rattle.tally.specs.Language.{M, _>>=_, _>>_, pure, if_then_else_, look, test, pushPoint, pushContact, mark, truncate}
 use Rattle.tally.specs.declared.Conditions.{Conditions}
 use Rattle.hop.specs.Hop.{hop}
+use Rattle.hop.specs.declared.Way.{Way}
 use Rattle.hop.specs.declared.Way.the-variants.{Arrived, Late}
 use Rattle.strike.specs.declared.Struck.{Struck}
 use Rattle.strike.specs.declared.Flown.{Flown}
@@ -44,18 +45,21 @@ module _ (c : Conditions) where
   unfoldable pub diesOut : BallState → Struck → BallState → Bool
   diesOut state hit arrival = hopsDieOut state hit.out arrival (vnormalize hit.«at».normal) c.ball c.physics.«min_hop_height»
 
-  -- flown and kept; or not flown, or discarded. 01: "a discarded hop's points go"
-  unfoldable pub fly : Bool → BallState → Struck → M Flown
-  fly hops state hit = if not hops then pure Ground else do
+  -- flown and kept; or not flown, or discarded. 01: "a discarded hop's points go". The hop is an argument
+  unfoldable pub flyBy : (BallState → M Way) → Bool → BallState → Struck → M Flown
+  flyBy hop hops state hit = if not hops then pure Ground else do
     m ← mark
     pushPoint hit.out InHop
-    way ← hop c hit.out
+    way ← hop hit.out
     elim way [
       | Late b ↦ pure (Hop (Late b))
       | Arrived b ↦ if diesOut state hit b then pure (Hop (Arrived b)) else do
         truncate m
         pure Ground
     ]
+
+  abbrev pub fly : Bool → BallState → Struck → M Flown
+  fly = flyBy (hop c)
 
   -- ---- the drop to the ground
 

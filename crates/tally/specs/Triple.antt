@@ -128,7 +128,7 @@ module _ (o : Oracle) where
   noted-is true p l k = append-assoc l (p ∷ []) k
   noted-is false p l k = refl
 
-  reach-is : {A : Type 0} (t : Tree (Ran A)) (m : List Made) (s f : List Spot)
+  pub reach-is : {A : Type 0} (t : Tree (Ran A)) (m : List Made) (s f : List Spot)
       → reach t m s f ≡ reached (run o t .outcome) (past (run o t .log) (m ++ madeBy o t) (s ++ looks o t) (f ++ misses o t))
   unfolding reach run madeBy looks misses
   reach-is (done r) m s f = rw (append-nil m, append-nil s, append-nil f)

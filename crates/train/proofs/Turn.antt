@@ -21,7 +21,7 @@ use Rattle.roll.specs.declared.Ending.{Ending}
 use Rattle.ground_phase.specs.GroundPhase.{timeUp, ground}
 use Rattle.ground_phase.specs.Contracts.{TimesUp, endedBy, afterRun}
 use Rattle.ground_phase.specs.declared.RunOut.{RunOut}
-use Rattle.strike.specs.Strike.{strike, rebounds, fly, drop}
+use Rattle.strike.specs.Strike.{strike, rebounds, flyBy, fly, drop}
 use Rattle.strike.specs.Contracts.{Strikes, Flies, Drops}
 use Rattle.strike.specs.declared.Struck.{Struck}
 use Rattle.strike.specs.declared.StrikeOut.{StrikeOut}
@@ -32,7 +32,7 @@ use Rattle.strike.specs.declared.FlyOut.{FlyOut}
 use Rattle.strike.specs.declared.FlyEnd.the-variants.{Went, Ended as FlyEnded}
 use Rattle.strike.specs.declared.DropOut.{DropOut}
 use Rattle.strike.specs.declared.DropEnd.the-variants.{Left, Ended as DropEnded}
-use Rattle.train.specs.Train.{lastImpact, toGround, trainFrom, train}
+use Rattle.train.specs.Train.{lastImpact, toGround, trainFromBy, trainFrom, train}
 use Rattle.train.specs.Contracts.{LastImpacts, isLast}
 
 -- ---- what is left of the train at each place
@@ -51,7 +51,7 @@ module _ (c : Conditions) (a : BallState) where
   bodyOf r (suc n) hit = fly c r a hit >>= flownTo n hit
 
   train-is : (n : ℕ) → trainFrom c n a ≡ (strike c a >>= λ hit. bodyOf (rebounds c hit) n hit)
-  unfolding trainFrom bodyOf
+  unfolding trainFromBy bodyOf
   train-is zero = refl
   train-is (suc n) = refl
 
@@ -59,7 +59,7 @@ module _ (c : Conditions) (a : BallState) where
   fly-is : (o : Oracle) (p : Place) (hit : Struck) (hops : Bool) (k max : ℕ) → isLast hops k max ≡ false
       → exec o (p .tally .rect) ((fly c hops a hit >>= flownTo (max - (k + 1 + 1)) hit) (logAt p)) ≡ exec o (p .tally .rect)
       (bodyOf hops (max - (k + 1)) hit (logAt p))
-  unfolding bodyOf fly bind _>>=_
+  unfolding bodyOf flyBy bind _>>=_
   fly-is o p hit hops k max s = go hops (max - (k + 1)) refl s
     where
       go : (r : Bool) (n : ℕ) → n ≡ max - (k + 1) → isLast r k max ≡ false

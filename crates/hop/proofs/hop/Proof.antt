@@ -10,14 +10,14 @@ use Rattle.tally.specs.Times.{isLate}
 use Rattle.tally.specs.Language.{pure}
 use Rattle.tally.specs.Contracts.{place}
 use Rattle.tally.proofs.Loop.{Midway, still-bounded, starts, stands, ends-late, ends-due, goes-on, ends-done}
-use Rattle.hop.specs.Hop.{hopStep, hopFrom}
+use Rattle.hop.specs.Hop.{airWith, hopStep, hopFrom}
 use Rattle.hop.specs.declared.Way.the-variants.{Late}
 use Rattle.hop.proofs.hop.Statement.{statement}
 use Rattle.hop.proofs.hop.Tie as tie
 
 abbrev Inv-loop : tie.InvT-loop
 Inv-loop sheet index points₀ c aero f₀ t₀ points f t = (lc : List Float) →
-    Midway (courseOf sheet) c (λ f. isLate (f .state .time) (c .«t_end»)) (λ f. pure (Late (f .state))) (hopStep c aero) f₀ (place t₀ lc points₀) f
+    Midway (courseOf sheet) c (λ f. isLate (f .state .time) (c .«t_end»)) (λ f. pure (Late (f .state))) (hopStep c (airWith c aero)) f₀ (place t₀ lc points₀) f
     (place t lc points)
 
 abbrev μ-loop : tie.MeasureT-loop

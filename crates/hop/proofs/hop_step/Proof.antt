@@ -14,7 +14,7 @@ use Rattle.tally.specs.declared.Tally.{Tally}
 use Rattle.tally.proofs.Reached.{ended, state-good, state-bad, no-work-tested, due-pushed, due-stopped}
 use Rattle.arrival.specs.declared.Arc.{Arc}
 use Rattle.arrival.proofs.Ways.{cleared, clear-off, no-work-cleared, arrived, none-arrived, arrive-off}
-use Rattle.hop.specs.Hop.{hopNext, hopStep}
+use Rattle.hop.specs.Hop.{airWith, hopNext, hopStep}
 use Rattle.hop.specs.declared.Flight.{Flight}
 use Rattle.hop.specs.declared.Way.{Way}
 use Rattle.hop.proofs.Pass.{toTest, toClear, toArrive, toDue, stepped, not-met}
@@ -47,7 +47,7 @@ end c = c .before .before .before
 abbrev Came : tie.After-test → (Conditions → Flight → Arc → M (Pass Flight Way)) → Tally → Type 0
 Came c rest t =
     let a = start (step c) .args in
-    (lc : List Float) → Reached (courseOf (a .sheet .now)) (hopStep (a .c) (a .aero) (a .f)) (place (a .t) lc (a .points .now)) 1
+    (lc : List Float) → Reached (courseOf (a .sheet .now)) (hopStep (a .c) (airWith (a .c) (a .aero)) (a .f)) (place (a .t) lc (a .points .now)) 1
     (rest (a .c) (a .f) (step c .step-arc .result)) (place t lc (a .points .now))
 
 abbrev ball : tie.After-test → BallState

@@ -17,7 +17,7 @@ use Rattle.tally.proofs.Loop.{still-bounded}
 use Rattle.tally.proofs.Reached.{begun, ended, on, came, if-taken, point-pushed, point-stopped, point-fits, truncated}
 use Rattle.hop.specs.declared.Way.{Way}
 use Rattle.hop.proofs.Ways.{flew, hop-ended, hop-due}
-use Rattle.strike.specs.Strike.{fly}
+use Rattle.strike.specs.Strike.{flyBy, fly}
 use Rattle.strike.specs.declared.Struck.{Struck}
 use Rattle.strike.specs.declared.Flown.{Flown}
 use Rattle.strike.proofs.Rebound.{toGround, toWay, toHop, toPush, flying, way-late, hop-kept, hop-discarded}
@@ -87,7 +87,7 @@ came-discard c lc =
 -- ---- the answers
 
 returns : tie.Need-returns
-unfolding fly
+unfolding flyBy
 returns c lc = on (ended (if-taken _ _ _ begun refl (c .if1 .taken)))
 
 push-point-requires : tie.Need-push-point-requires
