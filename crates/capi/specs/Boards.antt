@@ -1,17 +1,16 @@
 -- Definitions. What the board's exported functions give: the answer and the lent list (include/dimple.h). 100 for a length that is not the one named,
 -- 101 for doubles that are no board, 102 for a number that is no termination's.
 use Prim.Native.Nat.{ℕ}
-use mathlib.Core.Bool.{Bool, _&&_, cond}
+use mathlib.Core.Bool.{_&&_, cond}
 use mathlib.Core.List.{List, [], _∷_}
-use lib.Dec.{leb, eqb}
+use lib.Dec.{eqb}
 use lib.ListN.{length}
 use lib.Ieee.{Float}
 use Rattle.fields.specs.Fields.{wholeOf, written}
-use Rattle.board.specs.Board.{answered, newOf, enterOf, placeOf}
-use Rattle.board.specs.declared.Entry.{Entry}
-use Rattle.board.specs.declared.Board.{Board}
+use Rattle.board.specs.Board.{newOf, placeOf}
 use Rattle.board.specs.declared.Entered.{Entered}
-use Rattle.layout.specs.Layout.{boardLength, terminationOf, boardOk, boardAt, boardFields}
+use Rattle.layout.specs.Layout.{boardLength, boardOk, boardAt, boardFields}
+use Rattle.layout.specs.Sent.{Sent, sentOf}
 use Rattle.capi.specs.Doors.{Door, door}
 
 -- dimple_board_new: 0 or 9, with the board that `Board::new` gives
@@ -21,26 +20,6 @@ newDoorOf px pz l = cond (eqb (length l) boardLength) (let e = newOf px pz in do
 -- the board is changed on answer 0 alone
 unfoldable pub entered : Entered → List Float → Door
 entered e l = cond (eqb (e .answer) 0) (door 0 (boardFields (e .board))) (door (e .answer) l)
-
--- what dimple_board_enter is handed beside the board
-pub record Sent : Type 0 where
-  pub bay : ℕ
-  pub shot : ℕ
-  pub termination : ℕ
-  pub contacts : ℕ
-  pub x : Float
-  pub z : Float
-
-abbrev pub sentEntry : Sent → Entry
-sentEntry s = record { shot = s .shot; bay = s .bay; termination = terminationOf (s .termination); contacts = s .contacts; x = s .x; z = s .z }
-
--- the termination is one of 1 to 3
-unfoldable pub isEnd : ℕ → Bool
-isEnd n = leb 1 n && leb n 3
-
--- 102 comes before the numbers of `Board::enter`, and changes nothing
-unfoldable pub sentOf : Board → Sent → Entered
-sentOf b s = cond (isEnd (s .termination)) (enterOf b (sentEntry s)) (answered 102 b)
 
 -- dimple_board_enter: 100, 101, 102, then 0, 31, 10, 25, 24
 unfoldable pub enterDoorOf : List Float → Sent → Door

@@ -19,7 +19,8 @@ use Rattle.board.specs.declared.Board.{Board}
 use Rattle.layout.specs.Layout.{boardLength, numberOf, terminationOf, boardFields}
 use Rattle.layout.specs.RoundTrip.{Ended, Numbers, Held, written-length, written-ok, written-back, new-held, enter-held}
 use Rattle.capi.specs.Doors.{Door, door}
-use Rattle.capi.specs.Boards.{Sent, sentEntry, isEnd, sentOf, newDoorOf, entered, enterDoorOf, placeDoorOf}
+use Rattle.layout.specs.Sent.{Sent, sentEntry, isEnd, sentOf}
+use Rattle.capi.specs.Boards.{newDoorOf, entered, enterDoorOf, placeDoorOf}
 
 -- dimple_board_new over a list of a board's length
 pub new-door : (px pz : Float) (l : List Float) → length l ≡ boardLength → newDoorOf px pz l ≡ door (newOf px pz .answer) (boardFields (newOf px pz .board))

@@ -3,6 +3,4 @@ pub mod Cards
 pub mod Aims
 pub mod Listens
 pub mod Boards
-pub mod Entered
 pub mod Chain
-pub mod Heard

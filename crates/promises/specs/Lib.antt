@@ -24,3 +24,5 @@ pub mod Retold
 pub mod History
 pub mod Alike
 pub mod Factor
+pub mod Entered
+pub mod Heard

@@ -8,7 +8,8 @@ use borrow.Author.Needs.{needs}
 use borrow.Author.Tests.{eq-eqb, ne-eqb}
 use Rattle.layout.specs.Layout.{boardLength, boardOk, boardAt}
 use Rattle.capi.specs.Doors.{Door}
-use Rattle.capi.specs.Boards.{Sent, entered, sentOf, enterDoorOf}
+use Rattle.layout.specs.Sent.{Sent, sentOf}
+use Rattle.capi.specs.Boards.{entered, enterDoorOf}
 use Rattle.capi.proofs.dimple_board_enter.Statement.{statement}
 use Rattle.capi.proofs.dimple_board_enter.Tie as tie
 

@@ -10,7 +10,8 @@ use Rattle.board.specs.declared.Board.{Board}
 use Rattle.board.specs.declared.Entered.{Entered}
 use Rattle.layout.specs.Layout.{terminationOf, boardAt}
 use Rattle.capi.specs.Doors.{Door}
-use Rattle.capi.specs.Boards.{Sent, isEnd, entered, sentOf}
+use Rattle.layout.specs.Sent.{Sent, isEnd, sentOf}
+use Rattle.capi.specs.Boards.{entered}
 use Rattle.capi.proofs.enter_sent.Statement.{statement}
 use Rattle.capi.proofs.enter_sent.Tie as tie
 

@@ -24,7 +24,7 @@ use Rattle.board.specs.Board.{listing, emptyBoard, enterOf}
 use Rattle.board.specs.Words.{Near, after, accepted}
 use Rattle.board.specs.Listing.{never-10, made-taken}
 use Rattle.layout.specs.Layout.{terminationOf}
-use Rattle.capi.specs.Boards.{Sent, isEnd, sentOf}
+use Rattle.layout.specs.Sent.{Sent, isEnd, sentOf}
 
 -- a state that passes test 22 has a spot of magnitude at most 1,000,000
 spot-about : (s : BallState) → T (stateOk s) → T (aboutOf (dec 1000000 1) (s .pos .x)) × T (aboutOf (dec 1000000 1) (s .pos .z))
