@@ -34,10 +34,10 @@ use Rattle.train.specs.Train.{lastImpact, toGround, trainFromBy, train}
 use Rattle.shot.specs.Tests.{stepPhysicsOk, physicsOk, ballOk, densityOk, vecAbout, landingOk, inputTest}
 use Rattle.ground.specs.Tests.{wholes, refusalOf}
 use Rattle.ground.specs.Settle.{reportOf, conditionsOf, runOf, settleOf, looksOf}
-use Rattle.input.specs.Input.{realAt, vecAt, physicsAt, ballAt, landingAt, shotBy, settleInputBy}
+use Rattle.input.specs.Input.{realAt, vecAt, physicsAt, ballAt, landingAt, shotBy, settleInputBy, programOf}
 use Rattle.text.specs.Text.{decimalIn, decimalOf, wordOf}
-use Rattle.line.specs.Line.{terminationOf, countsOf, shownOf, lineOf}
+use Rattle.line.specs.Line.{terminationOf, countsOf, shownOf}
 
 unfoldable pub definitions : Unit {0}
-unfolding fits round add sub mul div lt le eq ne neg ofBits toBits ofInt toSigned isNan minOf maxOf clampOf absOf signumOf withinOf hypotOf expOf cosineOf sineOf arctangentOf vadd vsub vscale vdivs vdot vcross vlengthSquared vlength vnormalize vnormalizeOrZero sameVec penner coefficientAt speedFactor rollingFriction pennerThetaC pennerRefAngle tiltedAngle contactAngle radiusOf areaOf cdClOf fromSpinVector magnusOf accelerationOf movedIn weightedIn moved stepOf addScaled stepStateOf accelOf unitOrZero effectiveNormal frictionImpulse pivoted struck impactOf tangent slipOf lockedOf saturated tangentialGravity relocked ontoOf holdsAtRest sampleHolds returnedBy spinInertia energyOf hopsDieOut hermitePos hermiteVel hermiteOf parabolaOf dropTime inside start inBracket halvedIf replaced chord nextTry onward narrowed rootFrom findRoot slideAccel slideSpinAccel slideRate fixedRate slideFixed patchSlip turningRate slideTurning slipSpeed slipDecay slipRate timeToRoll finishOf aboveOf guessOf finishFrom slideToThreshold slideOnSlope slideOf pivotAccel patchOf slidTo slideStep rollPatchOf decelOf headingOf stopsOf stopTime restPos restSpin restOf resistanceOf rollRate rollBy rolledSpin rollOn rollStep contactStepOf coordOk spotOk lesser greater widen noRect bind looks exec little headerOk restitutionOk lawOk surfaceOk edgesOk patchOk all answerOf first covers restitutionOf lawOf surfaceOf patchSample plainSample courseOf flat shown pushed physicsNew isLate isDue nextAfter _>>=_ when vecOk stateOk makeStep countEvaluation look test putPoint pushPoint pushContact mark truncate stepsLeft loop arcOf clearance clearanceAt advanced atStart subStep crossingFrom firstCrossing endValue guessIn endingAt crossingTime placed hopArrival fadeFactor spinAfter aeroFor stepArc stepEnd hopNext hopStep hopFrom hop stepOn wholePhase lastOf pointDue heldOf putDown groundStep lastPhase timeUp lastImpact strike rebounds diesOut flyBy dropped drop groundFrom ground toGround trainFromBy train stepPhysicsOk physicsOk ballOk densityOk vecAbout landingOk wholes inputTest refusalOf reportOf conditionsOf runOf settleOf looksOf realAt vecAt physicsAt ballAt landingAt shotBy settleInputBy decimalIn decimalOf terminationOf countsOf shownOf lineOf wordOf
+unfolding fits round add sub mul div lt le eq ne neg ofBits toBits ofInt toSigned isNan minOf maxOf clampOf absOf signumOf withinOf hypotOf expOf cosineOf sineOf arctangentOf vadd vsub vscale vdivs vdot vcross vlengthSquared vlength vnormalize vnormalizeOrZero sameVec penner coefficientAt speedFactor rollingFriction pennerThetaC pennerRefAngle tiltedAngle contactAngle radiusOf areaOf cdClOf fromSpinVector magnusOf accelerationOf movedIn weightedIn moved stepOf addScaled stepStateOf accelOf unitOrZero effectiveNormal frictionImpulse pivoted struck impactOf tangent slipOf lockedOf saturated tangentialGravity relocked ontoOf holdsAtRest sampleHolds returnedBy spinInertia energyOf hopsDieOut hermitePos hermiteVel hermiteOf parabolaOf dropTime inside start inBracket halvedIf replaced chord nextTry onward narrowed rootFrom findRoot slideAccel slideSpinAccel slideRate fixedRate slideFixed patchSlip turningRate slideTurning slipSpeed slipDecay slipRate timeToRoll finishOf aboveOf guessOf finishFrom slideToThreshold slideOnSlope slideOf pivotAccel patchOf slidTo slideStep rollPatchOf decelOf headingOf stopsOf stopTime restPos restSpin restOf resistanceOf rollRate rollBy rolledSpin rollOn rollStep contactStepOf coordOk spotOk lesser greater widen noRect bind looks exec little headerOk restitutionOk lawOk surfaceOk edgesOk patchOk all answerOf first covers restitutionOf lawOf surfaceOf patchSample plainSample courseOf flat shown pushed physicsNew isLate isDue nextAfter _>>=_ when vecOk stateOk makeStep countEvaluation look test putPoint pushPoint pushContact mark truncate stepsLeft loop arcOf clearance clearanceAt advanced atStart subStep crossingFrom firstCrossing endValue guessIn endingAt crossingTime placed hopArrival fadeFactor spinAfter aeroFor stepArc stepEnd hopNext hopStep hopFrom hop stepOn wholePhase lastOf pointDue heldOf putDown groundStep lastPhase timeUp lastImpact strike rebounds diesOut flyBy dropped drop groundFrom ground toGround trainFromBy train stepPhysicsOk physicsOk ballOk densityOk vecAbout landingOk wholes inputTest refusalOf reportOf conditionsOf runOf settleOf looksOf realAt vecAt physicsAt ballAt landingAt shotBy settleInputBy decimalIn decimalOf terminationOf countsOf shownOf programOf wordOf
 definitions = tt

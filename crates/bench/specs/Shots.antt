@@ -10,7 +10,8 @@ use Rattle.number.specs.Ops.{dec}
 use Rattle.root.specs.Root.{rootOf}
 use Rattle.exponential.specs.Exp.{expOf}
 use Rattle.trigonometry.specs.Trig.{cosineOf}
-use Rattle.line.specs.Line.{lineOf}
+use Rattle.input.specs.Input.{programOf}
+use Rattle.line.specs.Line.{shownOf}
 use Rattle.bench.specs.Numbers.{root-four, cosine-zero, exp-at-zero, exp-at-minus-701}
 use Rattle.bench.specs.Definitions.{definitions}
 use Rattle.bench.specs.Given.{bits, lineText, dtAt, maxTimeAt, maxImpactsAt, massAt, densityAt, velYAt, inputOf, fieldsS, sheetS}
@@ -50,7 +51,7 @@ table =
 -- each input of the list gives its line
 abbrev pub Prints : List Shot → Type 0
 Prints [] = Unit {0}
-Prints (s ∷ l) = (lineOf (s .input) ≡ s .line) × Prints l
+Prints (s ∷ l) = (shownOf (programOf (s .input)) ≡ s .line) × Prints l
 
 pub bench-shots : Prints table
 unfolding definitions

@@ -4,8 +4,9 @@ use Prim.Native.Nat.{ℕ, _+_, _*_}
 use mathlib.Core.Bool.{Bool, true, false, _&&_, cond}
 use mathlib.Core.List.{List}
 use lib.Dec.{leb}
-use lib.ListN.{length, drop}
+use lib.ListN.{length, drop, replicate}
 use lib.Ieee.{Float, ofBits, binary64}
+use Rattle.number.specs.Ops.{dec}
 use Rattle.vector.specs.Vec.{vec}
 use Rattle.vector.specs.declared.DVec3.{DVec3}
 use Rattle.state.specs.declared.BallState.{BallState}
@@ -13,7 +14,9 @@ use Rattle.aero.specs.declared.BallModel.{BallModel}
 use Rattle.octets.specs.Octets.{little}
 use Rattle.shot.specs.declared.GroundPhysics.{GroundPhysics}
 use Rattle.shot.specs.declared.Shot.{Shot}
+use Rattle.tally.specs.Language.{contactWidth, pointWidth}
 use Rattle.ground.specs.Settle.{Result, result, refusal, settleOf}
+use Rattle.ground.specs.declared.Settled.{Settled}
 
 -- field i of 8 bytes, as a u64 and as an f64
 abbrev pub wholeAt : List ℕ → ℕ → ℕ
@@ -90,3 +93,7 @@ settleInputOf = settleInputBy false
 
 abbrev pub settleFadingInputOf : List ℕ → List Float → List Float → Result
 settleFadingInputOf = settleInputBy true
+
+-- what the program settle gives of its input: the first settle, with 64 contacts and 640 points lent, all +0 before
+unfoldable pub programOf : List ℕ → Settled
+programOf input = settleInputOf input (replicate (64 * contactWidth) (dec 0 1)) (replicate (640 * pointWidth) (dec 0 1)) .settled

@@ -1,16 +1,12 @@
 -- Definitions. The line that the program settle prints (01, "Lists and the rest of the shop" and "Bench shots"), as bytes in ASCII.
-use Prim.Native.Nat.{ℕ, _*_}
+use Prim.Native.Nat.{ℕ}
 use mathlib.Core.Bool.{_&&_, cond}
 use mathlib.Core.List.{List, [], _∷_, _++_}
 use lib.Dec.{leb}
-use lib.ListN.{length, drop, replicate}
-use lib.Ieee.{Float}
-use Rattle.number.specs.Ops.{dec}
+use lib.ListN.{length, drop}
 use Rattle.ground.specs.declared.Settled.{Settled}
 use Rattle.state.specs.declared.Termination.{Termination}
 use Rattle.text.specs.Text.{decimalOf, wordOf}
-use Rattle.tally.specs.Language.{pointWidth, contactWidth}
-use Rattle.input.specs.Input.{settleInputOf}
 
 -- ---- words
 
@@ -51,14 +47,6 @@ shownOf r =
     ((answerWord ++ decimalOf (r .answer)) ++ lineEnd)
     ((((answerWord ++ decimalOf (r .answer)) ++ terminationOf (r .termination)) ++ countsOf (r .contacts) (r .points) (r .steps)) ++ lineEnd)
 
--- +0
-abbrev pub nought : Float
-nought = dec 0 1
-
--- the line for the program's input, with 64 contacts and 640 points lent, all +0 before
-unfoldable pub lineOf : List ℕ → List ℕ
-lineOf input = shownOf (settleInputOf input (replicate (64 * contactWidth) nought) (replicate (640 * pointWidth) nought) .settled)
-
 -- how many bytes were written, and the list as it is then
 pub record Wrote : Type 0 where
   pub count : ℕ
@@ -67,6 +55,6 @@ pub record Wrote : Type 0 where
 abbrev pub wrote : ℕ → List ℕ → Wrote
 wrote n l = record { count = n; bytes = l }
 
--- the line at the start of l, and what stands past it as it was
+-- t at the start of l, and what stands past it as it was
 unfoldable pub writtenLine : List ℕ → List ℕ → Wrote
-writtenLine input l = let t = lineOf input in wrote (length t) (t ++ drop (length t) l)
+writtenLine t l = wrote (length t) (t ++ drop (length t) l)

@@ -41,12 +41,9 @@ fn put_settled(out: &mut [u8], s: Settled) -> usize
     text::put(out, d, b"\n")
 }
 
-// Settles the input with 64 contacts and 640 points lent, and writes the line; the count is the line's length.
-pub fn write_line(input: &[u8], out: &mut [u8; 128]) -> usize
-    ensures { λ r. ⌜ wrote r (now (out .exit)) ≡ writtenLine (now (input .entry)) (now (out .entry)) ⌝ }
+// The same into an array; the count is the line's length.
+pub fn write_line(s: Settled, out: &mut [u8; 128]) -> usize
+    ensures { λ r. ⌜ wrote r (now (out .exit)) ≡ writtenLine (shownOf s) (now (out .entry)) ⌝ }
 {
-    let mut contacts = [0.0; 64 * tally::CONTACT_WIDTH];
-    let mut points = [0.0; 640 * tally::POINT_WIDTH];
-    let s = input::settle_input(input, false, &mut contacts, &mut points);
     put_settled(out, s)
 }
