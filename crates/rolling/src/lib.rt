@@ -1,6 +1,8 @@
 // One ground step of a ball: it slides, rolls or comes to rest.
 ghost use mathlib.Core.Path.{_≡_};
-ghost use Rattle.vector.specs.Vec.{vlength};
+ghost use Rattle.number.specs.Ops.{_⊕_, _⊗_, _⊘_, dec};
+ghost use Rattle.vector.specs.Vec.{vdivs, vlength};
+ghost use Rattle.surface.specs.Surface.{speedFactor};
 ghost use Rattle.contact.specs.Contact.{slipOf};
 ghost use Rattle.rolling.specs.ContactStep.{pivotAccel, patchOf, slidTo, slideStep, rollPatchOf, decelOf, headingOf, stopsOf, stopTime, restPos, restSpin, restOf, resistanceOf, rollRate, rollBy, rolledSpin, rollOn, rollStep, contactStepOf};
 use aero::BallModel;
@@ -13,6 +15,7 @@ use slide::Slid;
 use state::BallState;
 use state::Phase;
 use surface::GroundSample;
+use surface::RollLaw;
 use surface::Surface;
 use vector::DVec3;
 
@@ -111,48 +114,35 @@ fn slide_step(
     }
 }
 
-fn roll_patch_of(patch: Patch, surface: Surface) -> RollPatch
-    ensures { λ r. ⌜ r ≡ rollPatchOf patch surface ⌝ }
+fn slope_of(patch: Patch) -> DVec3
+    ensures { λ r. ⌜ r ≡ vdivs (patch .«g_t») (dec 1 1 ⊕ patch .k) ⌝ }
 {
-    let n = patch.n;
     let g_t = patch.g_t;
-    let pivot_accel = patch.pivot_accel;
-    let slope = g_t.div(1.0 + patch.k);
-    let downhill = slope.normalize_or_zero();
-    RollPatch {
-        n,
-        surface,
-        g_n: G * n.y,
-        slope,
-        downhill,
-        radius: patch.radius,
-        k: patch.k,
-        pivot_accel,
-    }
+    g_t.div(1.0 + patch.k)
 }
 
-fn decel(q: RollPatch, v: f64) -> f64
-    ensures { λ r. ⌜ r ≡ decelOf q v ⌝ }
+// The deceleration at the speed `v`, by numbers alone: a record would be copied for each call.
+fn decel(mu_roll: f64, law: RollLaw, g_n: f64, k: f64, v: f64) -> f64
+    ensures { λ r. ⌜ r ≡ «mu_roll» ⊗ speedFactor law v ⊗ «g_n» ⊘ (dec 1 1 ⊕ k) ⌝ }
 {
-    let surface = q.surface;
-    surface.rolling_friction(v) * q.g_n / (1.0 + q.k)
+    mu_roll * law.speed_factor(v) * g_n / (1.0 + k)
 }
 
-fn heading_of(q: RollPatch, vel: DVec3, speed: f64) -> DVec3
-    ensures { λ r. ⌜ r ≡ headingOf q vel speed ⌝ }
+// The way the slope pulls is worked out only for a ball that hardly moves.
+fn heading_of(patch: Patch, surface: Surface, vel: DVec3, speed: f64) -> DVec3
+    ensures { λ r. ⌜ r ≡ headingOf (rollPatchOf patch surface) vel speed ⌝ }
 {
     if speed > SLIP_EPS {
         return vel.div(speed);
     }
-    q.downhill
+    slope_of(patch).normalize_or_zero()
 }
 
-fn stops(q: RollPatch, speed: f64, a0: f64, dt: f64, stop_speed: f64) -> bool
-    ensures { λ r. ⌜ r ≡ stopsOf q speed a0 dt «stop_speed» ⌝ }
+fn stops(patch: Patch, surface: Surface, speed: f64, a0: f64, dt: f64, stop_speed: f64) -> bool
+    ensures { λ r. ⌜ r ≡ stopsOf (rollPatchOf patch surface) speed a0 dt «stop_speed» ⌝ }
 {
     if speed <= SLIP_EPS {
-        let n = q.n;
-        let surface = q.surface;
+        let n = patch.n;
         return contact::holds_at_rest(n, surface);
     }
     (a0 >= 0.0) & (speed <= number::max(stop_speed, a0 * dt))
@@ -167,32 +157,40 @@ fn stop_time(speed: f64, a0: f64) -> f64
     0.0
 }
 
-fn rest_pos(q: RollPatch, pos: DVec3, vel: DVec3, heading: DVec3, t: f64) -> DVec3
-    ensures { λ r. ⌜ r ≡ restPos q pos vel heading t ⌝ }
+fn rest_pos(patch: Patch, surface: Surface, pos: DVec3, vel: DVec3, heading: DVec3, t: f64) -> DVec3
+    ensures { λ r. ⌜ r ≡ restPos (rollPatchOf patch surface) pos vel heading t ⌝ }
 {
-    let slope = q.slope;
+    let slope = slope_of(patch);
     let across = slope.sub(heading.scale(slope.dot(heading)));
     pos.add(vel.scale(0.5 * t)).add(across.scale(0.5 * t * t))
 }
 
-fn rest_spin(q: RollPatch, w: f64, t: f64) -> DVec3
-    ensures { λ r. ⌜ r ≡ restSpin q w t ⌝ }
+fn rest_spin(patch: Patch, surface: Surface, w: f64, t: f64) -> DVec3
+    ensures { λ r. ⌜ r ≡ restSpin (rollPatchOf patch surface) w t ⌝ }
 {
-    let n = q.n;
-    let pivot_accel = q.pivot_accel;
+    let n = patch.n;
+    let pivot_accel = patch.pivot_accel;
     let spin_n = n.scale(w);
     contact::saturate_pivot(spin_n, spin_n.add(pivot_accel.scale(t)), n)
 }
 
-fn rest_after(q: RollPatch, state: BallState, vel: DVec3, heading: DVec3, w: f64, t: f64) -> Stepped
-    ensures { λ r. ⌜ r ≡ restOf q state vel heading w t ⌝ }
+fn rest_after(
+    patch: Patch,
+    surface: Surface,
+    state: BallState,
+    vel: DVec3,
+    heading: DVec3,
+    w: f64,
+    t: f64,
+) -> Stepped
+    ensures { λ r. ⌜ r ≡ restOf (rollPatchOf patch surface) state vel heading w t ⌝ }
 {
     let pos = state.pos;
     let rest = BallState {
         time: state.time + t,
-        pos: rest_pos(q, pos, vel, heading, t),
+        pos: rest_pos(patch, surface, pos, vel, heading, t),
         vel: DVec3::ZERO,
-        spin: rest_spin(q, w, t),
+        spin: rest_spin(patch, surface, w, t),
     };
     Stepped {
         state: rest,
@@ -203,84 +201,102 @@ fn rest_after(q: RollPatch, state: BallState, vel: DVec3, heading: DVec3, w: f64
 }
 
 // The resistance at the velocity `vel`, of length `v`; `d` is the deceleration at `v`.
-fn resistance(q: RollPatch, vel: DVec3, v: f64, d: f64) -> DVec3
-    requires { ⌜ (v ≡ vlength vel) × (d ≡ decelOf q v) ⌝ }
-    ensures { λ r. ⌜ r ≡ resistanceOf q vel ⌝ }
+fn resistance(patch: Patch, surface: Surface, vel: DVec3, v: f64, d: f64) -> DVec3
+    requires { ⌜ (v ≡ vlength vel) × (d ≡ decelOf (rollPatchOf patch surface) v) ⌝ }
+    ensures { λ r. ⌜ r ≡ resistanceOf (rollPatchOf patch surface) vel ⌝ }
 {
     if v > SLIP_EPS {
         return vel.scale(-d).div(v);
     }
-    let downhill = q.downhill;
-    downhill.scale(-decel(q, 0.0))
+    let n = patch.n;
+    let law = surface.roll_law;
+    let d0 = decel(surface.mu_roll, law, G * n.y, patch.k, 0.0);
+    slope_of(patch).normalize_or_zero().scale(-d0)
+}
+
+fn resistance_at(patch: Patch, surface: Surface, vel: DVec3) -> DVec3
+    ensures { λ r. ⌜ r ≡ resistanceOf (rollPatchOf patch surface) vel ⌝ }
+{
+    let n = patch.n;
+    let law = surface.roll_law;
+    let v = vel.length();
+    let d = decel(surface.mu_roll, law, G * n.y, patch.k, v);
+    resistance(patch, surface, vel, v, d)
 }
 
 // The rate under the resistance `resist`.
-fn rate_under(q: RollPatch, s: Motion, resist: DVec3) -> Motion
-    requires { ⌜ resist ≡ resistanceOf q (s .vel) ⌝ }
-    ensures { λ r. ⌜ r ≡ rollRate q s ⌝ }
+fn rate_under(patch: Patch, surface: Surface, s: Motion, resist: DVec3) -> Motion
+    requires { ⌜ resist ≡ resistanceOf (rollPatchOf patch surface) (s .vel) ⌝ }
+    ensures { λ r. ⌜ r ≡ rollRate (rollPatchOf patch surface) s ⌝ }
 {
     let vel = s.vel;
-    let slope = q.slope;
-    let n = q.n;
-    let pivot_accel = q.pivot_accel;
+    let slope = slope_of(patch);
+    let n = patch.n;
+    let pivot_accel = patch.pivot_accel;
     let dv = resist.add(slope);
     Motion {
         pos: vel,
         vel: dv,
-        spin: n.cross(dv).div(q.radius).add(pivot_accel),
+        spin: n.cross(dv).div(patch.radius).add(pivot_accel),
     }
 }
 
-fn roll_rate(q: RollPatch, s: Motion) -> Motion
-    ensures { λ r. ⌜ r ≡ rollRate q s ⌝ }
-{
-    let vel = s.vel;
-    let v = vel.length();
-    rate_under(q, s, resistance(q, vel, v, decel(q, v)))
-}
-
 // One RK4 step of a ball that rolls; `k1` is the first stage's rate.
-fn roll_by(q: RollPatch, s: Motion, t: f64, dt: f64, k1: Motion) -> Motion
-    requires { ⌜ k1 ≡ rollRate q s ⌝ }
-    ensures { λ r. ⌜ r ≡ rollBy q s t dt ⌝ }
+fn roll_by(patch: Patch, surface: Surface, s: Motion, t: f64, dt: f64, k1: Motion) -> Motion
+    requires { ⌜ k1 ≡ rollRate (rollPatchOf patch surface) s ⌝ }
+    ensures { λ r. ⌜ r ≡ rollBy (rollPatchOf patch surface) s t dt ⌝ }
 {
     let half = dt / 2.0;
-    let k2 = roll_rate(q, s.add_scaled(k1, half));
-    let k3 = roll_rate(q, s.add_scaled(k2, half));
-    let k4 = roll_rate(q, s.add_scaled(k3, dt));
+    let s2 = s.add_scaled(k1, half);
+    let v2 = s2.vel;
+    let k2 = rate_under(patch, surface, s2, resistance_at(patch, surface, v2));
+    let s3 = s.add_scaled(k2, half);
+    let v3 = s3.vel;
+    let k3 = rate_under(patch, surface, s3, resistance_at(patch, surface, v3));
+    let s4 = s.add_scaled(k3, dt);
+    let v4 = s4.vel;
+    let k4 = rate_under(patch, surface, s4, resistance_at(patch, surface, v4));
     s.add_scaled(k1, dt / 6.0)
         .add_scaled(k2, dt / 3.0)
         .add_scaled(k3, dt / 3.0)
         .add_scaled(k4, dt / 6.0)
 }
 
-fn rolled_spin(q: RollPatch, spin: DVec3, m: Motion) -> DVec3
-    ensures { λ r. ⌜ r ≡ rolledSpin q spin m ⌝ }
+fn rolled_spin(patch: Patch, surface: Surface, spin: DVec3, m: Motion) -> DVec3
+    ensures { λ r. ⌜ r ≡ rolledSpin (rollPatchOf patch surface) spin m ⌝ }
 {
-    let n = q.n;
+    let n = patch.n;
     let vel = m.vel;
     let m_spin = m.spin;
     let spin_n = n.scale(contact::saturate_pivot(spin, m_spin, n).dot(n));
-    n.cross(vel).div(q.radius).add(spin_n)
+    n.cross(vel).div(patch.radius).add(spin_n)
 }
 
 // The step of a ball that rolls on; `resist` is the resistance at its velocity.
-fn roll_on(q: RollPatch, state: BallState, locked: Locked, dt: f64, resist: DVec3) -> Stepped
-    requires { ⌜ resist ≡ resistanceOf q (locked .vel) ⌝ }
-    ensures { λ r. ⌜ r ≡ rollOn q state locked dt ⌝ }
+fn roll_on(
+    patch: Patch,
+    surface: Surface,
+    state: BallState,
+    locked: Locked,
+    dt: f64,
+    resist: DVec3,
+) -> Stepped
+    requires { ⌜ resist ≡ resistanceOf (rollPatchOf patch surface) (locked .vel) ⌝ }
+    ensures { λ r. ⌜ r ≡ rollOn (rollPatchOf patch surface) state locked dt ⌝ }
 {
     let pos = state.pos;
     let vel = locked.vel;
     let spin = locked.spin;
     let start = Motion { pos, vel, spin };
-    let m = roll_by(q, start, state.time, dt, rate_under(q, start, resist));
+    let k1 = rate_under(patch, surface, start, resist);
+    let m = roll_by(patch, surface, start, state.time, dt, k1);
     let pos_out = m.pos;
     let vel_out = m.vel;
     let next = BallState {
         time: state.time + dt,
         pos: pos_out,
         vel: vel_out,
-        spin: rolled_spin(q, spin, m),
+        spin: rolled_spin(patch, surface, spin, m),
     };
     Stepped {
         state: next,
@@ -291,26 +307,29 @@ fn roll_on(q: RollPatch, state: BallState, locked: Locked, dt: f64, resist: DVec
 }
 
 fn roll_step(
-    q: RollPatch,
+    patch: Patch,
+    surface: Surface,
     state: BallState,
     locked: Locked,
     w: f64,
     dt: f64,
     stop_speed: f64,
 ) -> Stepped
-    ensures { λ r. ⌜ r ≡ rollStep q state locked w dt «stop_speed» ⌝ }
+    ensures { λ r. ⌜ r ≡ rollStep (rollPatchOf patch surface) state locked w dt «stop_speed» ⌝ }
 {
     let vel = locked.vel;
-    let slope = q.slope;
     let speed = vel.length();
-    let heading = heading_of(q, vel, speed);
-    let d = decel(q, speed);
-    let a0 = d - slope.dot(heading);
-    if stops(q, speed, a0, dt, stop_speed) {
+    let heading = heading_of(patch, surface, vel, speed);
+    let n = patch.n;
+    let law = surface.roll_law;
+    let d = decel(surface.mu_roll, law, G * n.y, patch.k, speed);
+    let a0 = d - slope_of(patch).dot(heading);
+    if stops(patch, surface, speed, a0, dt, stop_speed) {
         let t_stop = stop_time(speed, a0);
-        return rest_after(q, state, vel, heading, w, t_stop);
+        return rest_after(patch, surface, state, vel, heading, w, t_stop);
     }
-    roll_on(q, state, locked, dt, resistance(q, vel, speed, d))
+    let resist = resistance(patch, surface, vel, speed, d);
+    roll_on(patch, surface, state, locked, dt, resist)
 }
 
 // One ground step of at most `dt` on the ground sample `at`; a stop may take longer.
@@ -340,12 +359,5 @@ pub fn contact_step(
         return slide_step(patch, state, vel, dt, roll_threshold, u, len);
     }
     let locked = contact::lock_rolling(vel, spin, n, radius, k);
-    roll_step(
-        roll_patch_of(patch, surface),
-        state,
-        locked,
-        w,
-        dt,
-        stop_speed,
-    )
+    roll_step(patch, surface, state, locked, w, dt, stop_speed)
 }

@@ -1,16 +1,29 @@
 -- `resistance` meets its contract.
-use Rattle.rolling.specs.ContactStep.{resistanceOf}
+use Rattle.rolling.specs.ContactStep.{rollPatchOf, decelOf, resistanceOf}
+use Rattle.surface.specs.Surface.{rollingFriction}
 use lib.Ieee.{ofBits, round}
 use Rattle.rolling.proofs.resistance.Statement.{statement}
 use Rattle.rolling.proofs.resistance.Tie as tie
 
 returns : tie.Need-returns
 unfolding resistanceOf ofBits round
-returns c = let h = c .before .before .before .pre in simp (← h .0, ← h .1, ← c .before .scale .ensures, ← c .div .ensures, c .before .before .if1 .taken)
+returns c =
+    let at-start = c .before .before .before in
+    let h = at-start .pre in simp (← h .0, ← h .1, ← c .before .scale .ensures, ← c .div .ensures, c .before .before .if1 .taken)
 
 returns-2 : tie.Need-returns-2
-unfolding resistanceOf ofBits round
-returns-2 c = let h = c .before .before .before .before .pre in simp (← h .0, ← c .before .decel .ensures, ← c .scale2 .ensures, c .before .before .before .if1 .left)
+unfolding resistanceOf decelOf rollPatchOf rollingFriction ofBits round
+returns-2 c =
+    let at-decel = c .before .before .before in
+    let at-if1 = at-decel .before .before .before in
+    let h = at-if1 .before .pre in simp (
+      ← h .0,
+      ← at-decel .decel .ensures,
+      ← c .before .before .slope-of .ensures,
+      ← c .before .normalize-or-zero .ensures,
+      ← c .scale2 .ensures,
+      at-if1 .if1 .left,
+    )
 
 pub resistance-spec : {M : Type 1} → statement M
-resistance-spec = tie.close (tie.spec (λ c κs. tt) (λ c κs. tt) returns (λ c κs. tt) (λ c κs. tt) returns-2)
+resistance-spec = tie.close (tie.spec (λ c κs. tt) (λ c κs. tt) returns (λ c κs. tt) (λ c κs. tt) (λ c κs. tt) (λ c κs. tt) returns-2)

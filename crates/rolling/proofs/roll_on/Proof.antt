@@ -5,10 +5,14 @@ use Rattle.rolling.proofs.roll_on.Tie as tie
 
 returns : tie.Need-returns
 unfolding rollOn
-returns c = simp (← c .before .before .before .before .roll-by .ensures, ← c .rolled-spin .ensures)
+returns c =
+    let at-roll-by = c .before .before .before .before in
+    simp (← at-roll-by .roll-by .ensures, ← c .rolled-spin .ensures)
 
 rate-under-requires : tie.Need-rate-under-requires
-rate-under-requires c κs = c .before .before .before .pre
+rate-under-requires c κs =
+    let at-start = c .before .before .before in
+    at-start .pre
 
 roll-by-requires : tie.Need-roll-by-requires
 roll-by-requires c κs = c .rate-under .ensures

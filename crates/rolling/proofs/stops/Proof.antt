@@ -1,12 +1,12 @@
 -- `stops` meets its contract.
-use Rattle.rolling.specs.ContactStep.{stopsOf}
+use Rattle.rolling.specs.ContactStep.{rollPatchOf, stopsOf}
 use lib.Ieee.{ofBits, round}
 use Rattle.rolling.proofs.stops.Statement.{statement}
 use Rattle.rolling.proofs.stops.Tie as tie
 
 returns : tie.Need-returns
-unfolding stopsOf ofBits round
-returns c = simp (← c .holds-at-rest .ensures, c .before .before .before .if1 .taken)
+unfolding stopsOf rollPatchOf ofBits round
+returns c = simp (← c .holds-at-rest .ensures, c .before .before .if1 .taken)
 
 returns-2 : tie.Need-returns-2
 unfolding stopsOf ofBits round
