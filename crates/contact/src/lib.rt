@@ -1,5 +1,7 @@
 // A ball on the ground: slip, rolling, following the surface, the end of a train of hops.
 ghost use mathlib.Core.Path.{_≡_};
+ghost use mathlib.Core.Bool.{true};
+ghost use Rattle.vector.specs.Vec.{vec, vnormalize};
 ghost use Rattle.contact.specs.Contact.{tangent, slipOf, lockedOf, saturated, tangentialGravity, relocked, ontoOf, holdsAtRest, sampleHolds, returnedBy, spinInertia, energyOf, hopsDieOut};
 use aero::BallModel;
 use aero::G;
@@ -13,6 +15,41 @@ use vector::DVec3;
 pub struct Locked {
     pub vel: DVec3,
     pub spin: DVec3,
+}
+
+// True only if (x, y, z) is (0, 1, 0), with zeros of either sign.
+fn is_level(x: f64, y: f64, z: f64) -> bool
+    ensures { λ r. ⌜ (r ≡ true → vnormalize (vec x y z) ≡ vec x y z) ⌝ }
+{
+    if x != x {
+        return false;
+    }
+    if y != y {
+        return false;
+    }
+    if z != z {
+        return false;
+    }
+    let a = f64::to_bits(x);
+    let b = f64::to_bits(y);
+    let c = f64::to_bits(z);
+    if a % 9223372036854775808 != 0 {
+        return false;
+    }
+    if c % 9223372036854775808 != 0 {
+        return false;
+    }
+    b == 4607182418800017408
+}
+
+// The unit vector along a sample's normal. That of level ground is one already.
+pub fn unit(normal: DVec3) -> DVec3
+    ensures { λ r. ⌜ r ≡ vnormalize normal ⌝ }
+{
+    if is_level(normal.x, normal.y, normal.z) {
+        return normal;
+    }
+    normal.normalize()
 }
 
 // The part of v along the plane with unit normal n.
@@ -119,7 +156,7 @@ pub fn sample_holds(at: GroundSample) -> bool
 {
     let normal = at.normal;
     let surface = at.surface;
-    holds_at_rest(normal.normalize(), surface)
+    holds_at_rest(unit(normal), surface)
 }
 
 fn returned_by(rebound: BallState, next: BallState) -> f64

@@ -345,7 +345,7 @@ pub fn contact_step(
 {
     let normal = at.normal;
     let surface = at.surface;
-    let n = normal.normalize();
+    let n = contact::unit(normal);
     let radius = ball.radius_m();
     let k = ball.inertia_factor;
     let v = state.vel;

@@ -11,7 +11,7 @@ returns c =
     let at-sub = at-slip .before .before .before .before in
     let at-radius-m = at-sub .before .before .before .before in
     simp (
-      ← at-radius-m .before .normalize .ensures,
+      ← at-radius-m .before .unit .ensures,
       ← at-radius-m .radius-m .ensures,
       ← at-sub .before .before .dot .ensures,
       ← at-sub .before .scale .ensures,
@@ -32,7 +32,7 @@ returns-2 c =
     let at-scale = at-dot2 .before .before .before in
     let at-radius-m = at-scale .before .before .before in
     simp (
-      ← at-radius-m .before .normalize .ensures,
+      ← at-radius-m .before .unit .ensures,
       ← at-radius-m .radius-m .ensures,
       ← at-scale .before .dot .ensures,
       ← at-scale .scale .ensures,
