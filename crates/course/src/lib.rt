@@ -1,5 +1,6 @@
 // The course: what a look at a spot finds on an accepted sheet, looks that widen a rectangle, and the height at a spot (01, "Course sheet").
 ghost use mathlib.Core.Path.{_≡_};
+ghost use mathlib.Core.Bool.{true};
 ghost use Prim.Native.Nat.{ℕ, _+_, _*_, _≤_};
 ghost use lib.ListN.{length};
 ghost use Rattle.look.specs.Tree.{exec, did, lookTree};
@@ -110,35 +111,39 @@ fn sample_of(sheet: &[u8], count: usize, n: usize, i: usize, x: f64, z: f64) -> 
     }
 }
 
-// What a look finds, by the index.
-fn sample_at(sheet: &[u8], index: &[u64], x: f64, z: f64) -> GroundSample
-    requires { ⌜ Ready (now sheet) (now index) ⌝ }
-    ensures { λ r. ⌜ r ≡ courseOf (now (sheet .entry)) x z ⌝ }
+// The first patch with the spot in it, or past the last: by the index, or by trying each.
+fn first_at(
+    sheet: &[u8],
+    index: &[u64],
+    indexed: bool,
+    count: usize,
+    n: usize,
+    x: f64,
+    z: f64,
+) -> usize
+    requires { ⌜ (answerOf (now sheet) ≡ 0) × ((count ≡ surfaces (now sheet)) × (n ≡ patches (now sheet))) ⌝ }
+    requires { ⌜ (indexed ≡ true → Ready (now sheet) (now index)) ⌝ }
+    ensures { λ r. ⌜ r ≡ first (covers (now (sheet .entry)) x z) n count ⌝ }
 {
-    let count = octets::half(sheet, 0) as usize;
-    let n = octets::half(sheet, 8) as usize;
-    let i = index::find(sheet, index, count, n, x, z);
-    sample_of(sheet, count, n, i, x, z)
+    if indexed {
+        index::find(sheet, index, count, n, x, z)
+    } else {
+        index::find_patch(sheet, count, n, x, z)
+    }
 }
 
-// What a look finds, by trying each patch.
-fn scanned_at(sheet: &[u8], x: f64, z: f64) -> GroundSample
+// A look: the spot is tested, and one that passes widens the rectangle. All of it stands in one function, so that the sample is written where it is
+// returned to: a copy of it would be read before it is written back.
+fn look_by(sheet: &[u8], index: &[u64], indexed: bool, rect: Rect, x: f64, z: f64) -> LookOut
     requires { ⌜ answerOf (now sheet) ≡ 0 ⌝ }
-    ensures { λ r. ⌜ r ≡ courseOf (now (sheet .entry)) x z ⌝ }
-{
-    let count = octets::half(sheet, 0) as usize;
-    let n = octets::half(sheet, 8) as usize;
-    let i = index::find_patch(sheet, count, n, x, z);
-    sample_of(sheet, count, n, i, x, z)
-}
-
-// A look: the spot is tested, and one that passes widens the rectangle.
-pub fn look_at(sheet: &[u8], index: &[u64], rect: Rect, x: f64, z: f64) -> LookOut
-    requires { ⌜ Ready (now sheet) (now index) ⌝ }
+    requires { ⌜ (indexed ≡ true → Ready (now sheet) (now index)) ⌝ }
     ensures { λ r. ⌜ did (r .what) (r .rect) ≡ exec (courseOf (now (sheet .entry))) rect (lookTree x z) ⌝ }
 {
     if look::spot_ok(x, z) {
-        let s = sample_at(sheet, index, x, z);
+        let count = octets::half(sheet, 0) as usize;
+        let n = octets::half(sheet, 8) as usize;
+        let i = first_at(sheet, index, indexed, count, n, x, z);
+        let s = sample_of(sheet, count, n, i, x, z);
         let q = look::widen_to(rect, x, z);
         LookOut {
             what: Look::Saw(s),
@@ -150,6 +155,14 @@ pub fn look_at(sheet: &[u8], index: &[u64], rect: Rect, x: f64, z: f64) -> LookO
             rect,
         }
     }
+}
+
+// A look by the index.
+pub fn look_at(sheet: &[u8], index: &[u64], rect: Rect, x: f64, z: f64) -> LookOut
+    requires { ⌜ Ready (now sheet) (now index) ⌝ }
+    ensures { λ r. ⌜ did (r .what) (r .rect) ≡ exec (courseOf (now (sheet .entry))) rect (lookTree x z) ⌝ }
+{
+    look_by(sheet, index, true, rect, x, z)
 }
 
 // The same without an index, for a call that makes one or two looks.
@@ -157,19 +170,42 @@ pub fn scan_at(sheet: &[u8], rect: Rect, x: f64, z: f64) -> LookOut
     requires { ⌜ answerOf (now sheet) ≡ 0 ⌝ }
     ensures { λ r. ⌜ did (r .what) (r .rect) ≡ exec (courseOf (now (sheet .entry))) rect (lookTree x z) ⌝ }
 {
-    if look::spot_ok(x, z) {
-        let s = scanned_at(sheet, x, z);
-        let q = look::widen_to(rect, x, z);
-        LookOut {
-            what: Look::Saw(s),
-            rect: q,
-        }
+    let none = [0u64; 1];
+    look_by(sheet, &none, false, rect, x, z)
+}
+
+// The height of the patch that is record i at the spot.
+fn patch_height(sheet: &[u8], i: usize, x: f64, z: f64) -> f64
+    requires { ⌜ 80 + 64 * i ≤ length (now sheet) ⌝ }
+    ensures { λ r. ⌜ r ≡ patchSample (now (sheet .entry)) x z i .height ⌝ }
+{
+    let a = sheet::double(sheet, i, 5);
+    let b = sheet::double(sheet, i, 6);
+    (sheet::double(sheet, i, 4) + a * x) + b * z
+}
+
+// The course's height at the spot, where i is the first patch with the spot in it, or past the last.
+fn height_of(sheet: &[u8], count: usize, n: usize, i: usize, x: f64, z: f64) -> f64
+    requires { ⌜ (answerOf (now sheet) ≡ 0) × ((count ≡ surfaces (now sheet)) × (n ≡ patches (now sheet))) ⌝ }
+    requires { ⌜ i ≡ first (covers (now sheet) x z) n count ⌝ }
+    ensures { λ r. ⌜ r ≡ courseOf (now (sheet .entry)) x z .height ⌝ }
+{
+    if i < count + n {
+        patch_height(sheet, i, x, z)
     } else {
-        LookOut {
-            what: Look::Off,
-            rect,
-        }
+        0.0
     }
+}
+
+// The height by trying each patch.
+fn scanned_height(sheet: &[u8], x: f64, z: f64) -> f64
+    requires { ⌜ answerOf (now sheet) ≡ 0 ⌝ }
+    ensures { λ r. ⌜ r ≡ courseOf (now (sheet .entry)) x z .height ⌝ }
+{
+    let count = octets::half(sheet, 0) as usize;
+    let n = octets::half(sheet, 8) as usize;
+    let i = index::find_patch(sheet, count, n, x, z);
+    height_of(sheet, count, n, i, x, z)
 }
 
 pub struct HeightOut {
@@ -189,10 +225,9 @@ pub fn height(sheet: &[u8], x: f64, z: f64) -> HeightOut
         };
     }
     if look::spot_ok(x, z) {
-        let g = scanned_at(sheet, x, z);
         HeightOut {
             answer: 0,
-            height: g.height,
+            height: scanned_height(sheet, x, z),
         }
     } else {
         HeightOut {

@@ -11,16 +11,16 @@ returns : tie.Need-returns
 unfolding heightOf
 returns c = simp (← c0, ← c .before .check-sheet .ensures, ne-eqb _ _ (c .if1 .taken))
 
-scanned-at-requires : tie.Need-scanned-at-requires
-scanned-at-requires c κs = sym (c .before .before .before .check-sheet .ensures) ∙ c .before .before .if1 .left
+scanned-height-requires : tie.Need-scanned-height-requires
+scanned-height-requires c κs = sym (c .before .before .before .check-sheet .ensures) ∙ c .before .before .if1 .left
 
 returns-2 : tie.Need-returns-2
 unfolding heightOf
-returns-2 c = simp (← c0, ← c .before .before .before .before .check-sheet .ensures, eq-eqb _ _ (c .before .before .before .if1 .left), ← c .before .before .spot-ok .ensures, c .before .if2 .taken, ← c .scanned-at .ensures)
+returns-2 c = simp (← c0, ← c .before .before .before .before .check-sheet .ensures, eq-eqb _ _ (c .before .before .before .if1 .left), ← c .before .before .spot-ok .ensures, c .before .if2 .taken, ← c .scanned-height .ensures)
 
 returns-3 : tie.Need-returns-3
 unfolding heightOf
 returns-3 c = simp (← c0, ← c .before .before .before .check-sheet .ensures, eq-eqb _ _ (c .before .before .if1 .left), ← c .before .spot-ok .ensures, c .if2 .left)
 
 pub height-spec : {M : Type 1} → statement M
-height-spec = tie.close (tie.spec (λ c κs. search needs) returns (λ c κs. search needs) scanned-at-requires returns-2 returns-3)
+height-spec = tie.close (tie.spec (λ c κs. search needs) returns (λ c κs. search needs) scanned-height-requires returns-2 returns-3)

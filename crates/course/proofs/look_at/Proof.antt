@@ -1,16 +1,9 @@
 -- look_at: one look, as the look tree has it.
-use Rattle.look.specs.Tree.{exec}
-use borrow.Author.Needs.{needs}
 use Rattle.course.proofs.look_at.Statement.{statement}
 use Rattle.course.proofs.look_at.Tie as tie
 
-returns : tie.Need-returns
-unfolding exec
-returns c = rw (← c .before .before .before .spot-ok .ensures, c .before .before .if1 .taken, c .before .sample-at .ensures, c .widen-to .ensures)
-
-returns-2 : tie.Need-returns-2
-unfolding exec
-returns-2 c = rw (← c .before .spot-ok .ensures, c .if1 .left)
+look-by-requires : tie.Need-look-by-requires
+look-by-requires c κs = (c .before .before .pre .ok, λ _. c .before .before .pre)
 
 pub look-at-spec : {M : Type 1} → statement M
-look-at-spec = tie.close (tie.spec (λ c κs. search needs) (λ c κs. search needs) (λ c κs. search needs) returns returns-2)
+look-at-spec = tie.close (tie.spec look-by-requires (λ c. c .look-by .ensures))
