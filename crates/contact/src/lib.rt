@@ -1,7 +1,8 @@
 // A ball on the ground: slip, rolling, following the surface, the end of a train of hops.
 ghost use mathlib.Core.Path.{_≡_};
-ghost use mathlib.Core.Bool.{true};
-ghost use Rattle.vector.specs.Vec.{vec, vnormalize};
+ghost use mathlib.Core.Bool.{true, _&&_};
+ghost use lib.Ieee.{eq};
+ghost use Rattle.vector.specs.Vec.{vec, vnormalize, sameVec};
 ghost use Rattle.contact.specs.Contact.{tangent, slipOf, lockedOf, saturated, tangentialGravity, relocked, ontoOf, holdsAtRest, sampleHolds, returnedBy, spinInertia, energyOf, hopsDieOut};
 use aero::BallModel;
 use aero::G;
@@ -102,6 +103,13 @@ fn relock(spin: DVec3, vel: DVec3, n: DVec3, prev_normal: DVec3, radius: f64) ->
 {
     let w_n = spin.dot(prev_normal.normalize());
     n.cross(vel).div(radius).add(n.scale(w_n))
+}
+
+// Whether a ball at the height `y` is on the ground already, and the ground is as it was.
+pub fn is_onto(y: f64, height: f64, normal: DVec3, prev_normal: DVec3) -> bool
+    ensures { λ r. ⌜ r ≡ (sameVec normal «prev_normal» && eq y height) ⌝ }
+{
+    normal.same(prev_normal) & (y == height)
 }
 
 // Puts a ball that has stepped across the ground back onto it.

@@ -115,13 +115,18 @@ fn held(s: Stepped, under: GroundSample) -> bool
     }
 }
 
-// The ball after its step, put back onto the ground under it.
+// The ball after its step, put back onto the ground under it. Mostly it is there already, and nothing is handed over.
 fn put_down(c: Conditions, g: Roll, s: Stepped, under: GroundSample) -> BallState
     ensures { λ r. ⌜ r ≡ putDown c g (s .state) (s .rolling) under ⌝ }
 {
     let next = s.state;
     let at = g.at;
     let normal = at.normal;
+    let pos = next.pos;
+    let under_normal = under.normal;
+    if contact::is_onto(pos.y, under.height, under_normal, normal) {
+        return next;
+    }
     let ball = c.ball;
     contact::onto_surface(next, under, normal, s.rolling, ball.radius_m())
 }
