@@ -132,8 +132,8 @@ fn first_at(
     }
 }
 
-// A look: the spot is tested, and one that passes widens the rectangle. All of it stands in one function, so that the sample is written where it is
-// returned to: a copy of it would be read before it is written back.
+// A look: the spot is tested, and one that passes widens the rectangle. All of it stands in one function, so that the sample is written once, where it
+// is returned to.
 fn look_by(sheet: &[u8], index: &[u64], indexed: bool, rect: Rect, x: f64, z: f64) -> LookOut
     requires { ⌜ answerOf (now sheet) ≡ 0 ⌝ }
     requires { ⌜ (indexed ≡ true → Ready (now sheet) (now index)) ⌝ }
@@ -157,12 +157,24 @@ fn look_by(sheet: &[u8], index: &[u64], indexed: bool, rect: Rect, x: f64, z: f6
     }
 }
 
-// A look by the index.
+// A look by the index. The rectangle is handed on number by number: read as a whole just after its parts are written, it would have to wait for them.
 pub fn look_at(sheet: &[u8], index: &[u64], rect: Rect, x: f64, z: f64) -> LookOut
     requires { ⌜ Ready (now sheet) (now index) ⌝ }
     ensures { λ r. ⌜ did (r .what) (r .rect) ≡ exec (courseOf (now (sheet .entry))) rect (lookTree x z) ⌝ }
 {
-    look_by(sheet, index, true, rect, x, z)
+    let out = look_by(sheet, index, true, rect, x, z);
+    let what = out.what;
+    let q = out.rect;
+    LookOut {
+        what,
+        rect: Rect {
+            seen: q.seen,
+            x_lo: q.x_lo,
+            x_hi: q.x_hi,
+            z_lo: q.z_lo,
+            z_hi: q.z_hi,
+        },
+    }
 }
 
 // The same without an index, for a call that makes one or two looks.
