@@ -1,11 +1,13 @@
 // The course: what a look at a spot finds on an accepted sheet, looks that widen a rectangle, and the height at a spot (01, "Course sheet").
 ghost use mathlib.Core.Path.{_≡_};
-ghost use mathlib.Core.Bool.{true};
-ghost use Prim.Native.Nat.{ℕ, _+_, _*_, _≤_};
+ghost use mathlib.Core.Bool.{true, not};
+ghost use Prim.Native.Nat.{ℕ, _+_, _*_, _≤_, _<_};
 ghost use lib.ListN.{length};
+ghost use lib.Dec.{T};
+ghost use lib.Ieee.{binary64, nanBits};
 ghost use Rattle.look.specs.Tree.{exec, did, lookTree};
 ghost use Rattle.course.specs.Index.{Ready};
-ghost use Rattle.course.specs.Sheet.{field, surfaces, patches, answerOf, first, covers, restitutionOf, lawOf, surfaceOf, patchSample, plainSample, courseOf, heightOf};
+ghost use Rattle.course.specs.Sheet.{field, real, surfaces, patches, surfaceOk, patchOk, answerOf, first, covers, restitutionOf, lawOf, surfaceOf, patchSample, plainSample, courseOf, heightOf};
 pub use index::INDEX_WORDS;
 pub use index::make_index;
 use look::Look;
@@ -40,39 +42,48 @@ fn law_of(law: u64, v_ref: f64) -> RollLaw
     }
 }
 
-// Surface i, as held in memory.
+// A field that is known to be no NaN.
+fn number_at(s: &[u8], i: usize, j: usize) -> f64
+    requires { ⌜ (80 + 64 * i ≤ length (now s)) × ((j < 8) × T (not (nanBits binary64 (field (now s) i j)))) ⌝ }
+    ensures { λ r. ⌜ r ≡ real (now (s .entry)) i j ⌝ }
+{
+    f64::from_bits(sheet::whole(s, i, j))
+}
+
+// Surface i, as held in memory. What passed its test is no NaN.
 fn surface_at(sheet: &[u8], i: usize) -> Surface
-    requires { ⌜ 80 + 64 * i ≤ length (now sheet) ⌝ }
+    requires { ⌜ (80 + 64 * i ≤ length (now sheet)) × (surfaceOk (now sheet) i ≡ true) ⌝ }
     ensures { λ r. ⌜ r ≡ surfaceOf (now (sheet .entry)) i ⌝ }
 {
     let restitution = restitution_of(sheet::whole(sheet, i, 0), sheet::double(sheet, i, 1));
     let roll_law = law_of(sheet::whole(sheet, i, 4), sheet::double(sheet, i, 5));
     Surface {
         restitution,
-        mu_slide: sheet::double(sheet, i, 2),
-        mu_roll: sheet::double(sheet, i, 3),
+        mu_slide: number_at(sheet, i, 2),
+        mu_roll: number_at(sheet, i, 3),
         roll_law,
-        compliance: sheet::double(sheet, i, 6),
-        pivot: sheet::double(sheet, i, 7),
+        compliance: number_at(sheet, i, 6),
+        pivot: number_at(sheet, i, 7),
     }
 }
 
 // What the patch that is record i gives at the spot.
 fn patch_sample(sheet: &[u8], i: usize, x: f64, z: f64) -> GroundSample
     requires { ⌜ (80 + 64 * i ≤ length (now sheet)) × (80 + 64 * field (now sheet) i 7 ≤ length (now sheet)) ⌝ }
+    requires { ⌜ (patchOk (now sheet) i ≡ true) × (surfaceOk (now sheet) (field (now sheet) i 7) ≡ true) ⌝ }
     ensures { λ r. ⌜ r ≡ patchSample (now (sheet .entry)) x z i ⌝ }
 {
     let number = sheet::whole(sheet, i, 7);
     let surface = surface_at(sheet, number as usize);
-    let a = sheet::double(sheet, i, 5);
-    let b = sheet::double(sheet, i, 6);
+    let a = number_at(sheet, i, 5);
+    let b = number_at(sheet, i, 6);
     let normal = DVec3 {
         x: -a,
         y: 1.0,
         z: -b,
     };
     GroundSample {
-        height: (sheet::double(sheet, i, 4) + a * x) + b * z,
+        height: (number_at(sheet, i, 4) + a * x) + b * z,
         normal,
         surface,
         number,
@@ -81,7 +92,7 @@ fn patch_sample(sheet: &[u8], i: usize, x: f64, z: f64) -> GroundSample
 
 // What is where no patch is.
 fn plain_sample(sheet: &[u8]) -> GroundSample
-    requires { ⌜ 80 ≤ length (now sheet) ⌝ }
+    requires { ⌜ (80 ≤ length (now sheet)) × (surfaceOk (now sheet) 0 ≡ true) ⌝ }
     ensures { λ r. ⌜ r ≡ plainSample (now (sheet .entry)) ⌝ }
 {
     let surface = surface_at(sheet, 0);

@@ -1,13 +1,29 @@
 -- patch_sample: height, normal and surface of a patch at a spot.
+use native.Mathlib.Omega.{arith}
 use Rattle.sheet.specs.Consts.{c1}
 use Rattle.course.specs.Sheet.{patchSample}
-use borrow.Author.Needs.{needs}
+use Rattle.course.proofs.Passed.{patch-4, patch-5, patch-6}
 use Rattle.course.proofs.patch_sample.Statement.{statement}
 use Rattle.course.proofs.patch_sample.Tie as tie
 
 returns : tie.Need-returns
 unfolding patchSample
-returns c = simp (← c1, ← c .before .before .before .before .whole .ensures, ← c .before .before .before .surface-at .ensures, ← c .before .before .double .ensures, ← c .before .double2 .ensures, ← c .double3 .ensures)
+returns c = simp (← c1, ← c .before .before .before .before .whole .ensures, ← c .before .before .before .surface-at .ensures, ← c .before .before .number-at .ensures, ← c .before .number-at2 .ensures, ← c .number-at3 .ensures)
+
+whole-requires : tie.Need-whole-requires
+whole-requires c κs = (c .before .pre .0 .0, omega arith)
+
+surface-at-requires : tie.Need-surface-at-requires
+surface-at-requires c κs = rw (c .whole .ensures) (c .before .before .pre .0 .1, c .before .before .pre .1 .1)
+
+number-at-requires : tie.Need-number-at-requires
+number-at-requires c κs = (c .before .before .before .pre .0 .0, (omega arith, patch-5 _ _ (c .before .before .before .pre .1 .0)))
+
+number-at-requires-2 : tie.Need-number-at-requires-2
+number-at-requires-2 c κs = (c .before .before .before .before .pre .0 .0, (omega arith, patch-6 _ _ (c .before .before .before .before .pre .1 .0)))
+
+number-at-requires-3 : tie.Need-number-at-requires-3
+number-at-requires-3 c κs = (c .before .before .before .before .before .pre .0 .0, (omega arith, patch-4 _ _ (c .before .before .before .before .before .pre .1 .0)))
 
 pub patch-sample-spec : {M : Type 1} → statement M
-patch-sample-spec = tie.close (tie.spec (λ c κs. search needs) (λ c κs. search needs) (λ c κs. search needs) (λ c κs. search needs) (λ c κs. search needs) returns)
+patch-sample-spec = tie.close (tie.spec whole-requires surface-at-requires number-at-requires number-at-requires-2 number-at-requires-3 returns)

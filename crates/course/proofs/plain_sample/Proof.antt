@@ -1,7 +1,6 @@
 -- plain_sample: what is where no patch is.
 use Rattle.sheet.specs.Consts.{c0, c1}
 use Rattle.course.specs.Sheet.{plainSample}
-use borrow.Author.Needs.{needs}
 use Rattle.course.proofs.plain_sample.Statement.{statement}
 use Rattle.course.proofs.plain_sample.Tie as tie
 
@@ -9,5 +8,8 @@ returns : tie.Need-returns
 unfolding plainSample
 returns c = simp (← c .surface-at .ensures, ← c0, ← c1)
 
+surface-at-requires : tie.Need-surface-at-requires
+surface-at-requires c κs = c .before .pre
+
 pub plain-sample-spec : {M : Type 1} → statement M
-plain-sample-spec = tie.close (tie.spec (λ c κs. search needs) returns)
+plain-sample-spec = tie.close (tie.spec surface-at-requires returns)

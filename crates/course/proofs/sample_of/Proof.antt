@@ -5,6 +5,7 @@ use borrow.Author.Tests.{lt-ltb, le-ltb}
 use Rattle.sheet.specs.Accepted.{accepted, number-below, patch-passed}
 use Rattle.sheet.specs.Scan.{first-from}
 use Rattle.course.specs.Sheet.{covers, courseOf, surfaces, patches}
+use Rattle.course.proofs.Passed.{surface-passed}
 use Rattle.course.proofs.sample_of.Statement.{statement}
 use Rattle.course.proofs.sample_of.Tie as tie
 
@@ -19,11 +20,12 @@ patch-sample-requires c κs =
     let f = first-from (covers s (c .before .before .args .x) (c .before .before .args .z)) (c .before .before .args .n) (c .before .before .args .count) in
     let l : surfaces s ≤ i = omega (arith, f, c .before .before .pre .1, c .before .before .pre .0 .1 .0) in
     let u : i < surfaces s + patches s = omega (arith, c .before .before .pre .0 .1 .0, c .before .before .pre .0 .1 .1, c .if1 .taken) in
-    let b = number-below s i (patch-passed s i (c .before .before .pre .0 .0) l u) in
-    (omega (arith, h .long, u), omega (arith, h .long, b))
+    let p = patch-passed s i (c .before .before .pre .0 .0) l u in
+    let b = number-below s i p in
+    ((omega (arith, h .long, u), omega (arith, h .long, b)), (p, surface-passed s _ (c .before .before .pre .0 .0) b))
 
 plain-sample-requires : tie.Need-plain-sample-requires
-plain-sample-requires c κs = let h = accepted (c .before .before .args .sheet .now) (c .before .before .pre .0 .0) in omega (arith, h .long, h .some)
+plain-sample-requires c κs = let h = accepted (c .before .before .args .sheet .now) (c .before .before .pre .0 .0) in (omega (arith, h .long, h .some), surface-passed _ 0 (c .before .before .pre .0 .0) (h .some))
 
 returns : tie.Need-returns
 unfolding courseOf

@@ -1,12 +1,51 @@
 -- surface_at: a surface as held in memory.
+use native.Mathlib.Omega.{arith}
 use Rattle.course.specs.Sheet.{surfaceOf}
+use Rattle.course.proofs.Passed.{surface-2, surface-3, surface-6, surface-7}
 use borrow.Author.Needs.{needs}
 use Rattle.course.proofs.surface_at.Statement.{statement}
 use Rattle.course.proofs.surface_at.Tie as tie
 
 returns : tie.Need-returns
 unfolding surfaceOf
-returns c = simp (← c .before .before .before .before .before .before .before .before .before .whole .ensures, ← c .before .before .before .before .before .before .before .before .double .ensures, ← c .before .before .before .before .before .before .before .restitution-of .ensures, ← c .before .before .before .before .before .before .whole2 .ensures, ← c .before .before .before .before .before .double2 .ensures, ← c .before .before .before .before .law-of .ensures, ← c .before .before .before .double3 .ensures, ← c .before .before .double4 .ensures, ← c .before .double5 .ensures, ← c .double6 .ensures)
+returns c = simp (← c .before .before .before .before .before .before .before .before .before .whole .ensures, ← c .before .before .before .before .before .before .before .before .double .ensures, ← c .before .before .before .before .before .before .before .restitution-of .ensures, ← c .before .before .before .before .before .before .whole2 .ensures, ← c .before .before .before .before .before .double2 .ensures, ← c .before .before .before .before .law-of .ensures, ← c .before .before .before .number-at .ensures, ← c .before .before .number-at2 .ensures, ← c .before .number-at3 .ensures, ← c .number-at4 .ensures)
+
+number-at-requires : tie.Need-number-at-requires
+number-at-requires c κs = (c .before .before .before .before .before .before .before .pre .0, (omega arith, surface-2 _ _ (c .before .before .before .before .before .before .before .pre .1)))
+
+number-at-requires-2 : tie.Need-number-at-requires-2
+number-at-requires-2 c κs = (c .before .before .before .before .before .before .before .before .pre .0, (omega arith, surface-3 _ _ (c .before .before .before .before .before .before .before .before .pre .1)))
+
+number-at-requires-3 : tie.Need-number-at-requires-3
+number-at-requires-3 c κs = (c .before .before .before .before .before .before .before .before .before .pre .0, (omega arith, surface-6 _ _ (c .before .before .before .before .before .before .before .before .before .pre .1)))
+
+number-at-requires-4 : tie.Need-number-at-requires-4
+number-at-requires-4 c κs = (c .before .before .before .before .before .before .before .before .before .before .pre .0, (omega arith, surface-7 _ _ (c .before .before .before .before .before .before .before .before .before .before .pre .1)))
+
+first-whole : tie.Need-whole-requires
+first-whole c κs = (c .before .pre .0, omega arith)
+
+first-double : tie.Need-double-requires
+first-double c κs = (c .before .before .pre .0, omega arith)
+
+second-whole : tie.Need-whole-requires-2
+second-whole c κs = (c .before .before .before .before .pre .0, omega arith)
+
+second-double : tie.Need-double-requires-2
+second-double c κs = (c .before .before .before .before .before .pre .0, omega arith)
 
 pub surface-at-spec : {M : Type 1} → statement M
-surface-at-spec = tie.close (tie.spec (λ c κs. search needs) (λ c κs. search needs) (λ c κs. search needs) (λ c κs. search needs) (λ c κs. search needs) (λ c κs. search needs) (λ c κs. search needs) (λ c κs. search needs) (λ c κs. search needs) (λ c κs. search needs) returns)
+surface-at-spec =
+    tie.close
+    (tie.spec
+    first-whole
+    first-double
+    (λ c κs. tt)
+    second-whole
+    second-double
+    (λ c κs. tt)
+    number-at-requires
+    number-at-requires-2
+    number-at-requires-3
+    number-at-requires-4
+    returns)
