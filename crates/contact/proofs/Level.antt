@@ -35,12 +35,24 @@ zero x f h =
 Unit : Float → Float → Float → Type 0
 Unit x y z = vnormalize (vec x y z) ≡ vec x y z
 
-units : (x z : Float) → Zero x → Zero z → Unit x (ofBits binary64 4607182418800017408) z
+abbrev one : Float
+one = ofBits binary64 4607182418800017408
+
+abbrev zero+ : Float
+zero+ = ofBits binary64 0
+
+abbrev zero- : Float
+zero- = ofBits binary64 9223372036854775808
+
+both : (a b x z : Float) → a ≡ x → b ≡ z → Unit a one b → Unit x one z
+both a b x z p q u = subst (λ (c : Float). Unit c one z) p (subst (λ (c : Float). Unit a one c) q u)
+
+units : (x z : Float) → Zero x → Zero z → Unit x one z
 unfolding Unit vnormalize vscale vlength vdot rootOf ofBits round add mul div
-units x z (inl p) (inl q) = subst (λ (a : Float). Unit a (ofBits binary64 4607182418800017408) z) p (subst (λ (a : Float). Unit (ofBits binary64 0) (ofBits binary64 4607182418800017408) a) q refl)
-units x z (inl p) (inr q) = subst (λ (a : Float). Unit a (ofBits binary64 4607182418800017408) z) p (subst (λ (a : Float). Unit (ofBits binary64 0) (ofBits binary64 4607182418800017408) a) q refl)
-units x z (inr p) (inl q) = subst (λ (a : Float). Unit a (ofBits binary64 4607182418800017408) z) p (subst (λ (a : Float). Unit (ofBits binary64 9223372036854775808) (ofBits binary64 4607182418800017408) a) q refl)
-units x z (inr p) (inr q) = subst (λ (a : Float). Unit a (ofBits binary64 4607182418800017408) z) p (subst (λ (a : Float). Unit (ofBits binary64 9223372036854775808) (ofBits binary64 4607182418800017408) a) q refl)
+units x z (inl p) (inl q) = both zero+ zero+ x z p q refl
+units x z (inl p) (inr q) = both zero+ zero- x z p q refl
+units x z (inr p) (inl q) = both zero- zero+ x z p q refl
+units x z (inr p) (inr q) = both zero- zero- x z p q refl
 
 pub level : (x y z : Float) → T (fits binary64 x) → T (fits binary64 y) → T (fits binary64 z)
     → toBits binary64 x % 9223372036854775808 ≡ 0 → toBits binary64 z % 9223372036854775808 ≡ 0 → toBits binary64 y ≡ 4607182418800017408

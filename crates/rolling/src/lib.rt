@@ -1,9 +1,13 @@
 // One ground step of a ball: it slides, rolls or comes to rest.
 ghost use mathlib.Core.Path.{_≡_};
+ghost use mathlib.Core.Bool.{true};
+ghost use lib.Ieee.{lt};
 ghost use Rattle.number.specs.Ops.{_⊕_, _⊗_, _⊘_, dec};
+ghost use Rattle.root.specs.Root.{rootOf};
 ghost use Rattle.vector.specs.Vec.{vdivs, vlength};
 ghost use Rattle.surface.specs.Surface.{speedFactor};
 ghost use Rattle.contact.specs.Contact.{slipOf};
+ghost use Rattle.slide.specs.Slide.{slipEps};
 ghost use Rattle.rolling.specs.ContactStep.{pivotAccel, patchOf, slidTo, slideStep, rollPatchOf, decelOf, headingOf, stopsOf, stopTime, restPos, restSpin, restOf, resistanceOf, rollRate, rollBy, rolledSpin, rollOn, rollStep, contactStepOf};
 use aero::BallModel;
 use aero::G;
@@ -332,6 +336,19 @@ fn roll_step(
     roll_on(patch, surface, state, locked, dt, resist)
 }
 
+// 2^-61, far below the square of SLIP_EPS.
+const SLOW_SQUARED: f64 = 4.336808689942017736029811203479766845703125e-19;
+
+// The slip speed, of which `s` is the square; or 0 where `s` is so small that the speed is not above SLIP_EPS, so that no root is taken.
+fn slip_root(s: f64) -> f64
+    ensures { λ r. ⌜ (lt slipEps r ≡ lt slipEps (rootOf s)) × (lt slipEps r ≡ true → r ≡ rootOf s) ⌝ }
+{
+    if s < SLOW_SQUARED {
+        return 0.0;
+    }
+    root::root(s)
+}
+
 // One ground step of at most `dt` on the ground sample `at`; a stop may take longer.
 pub fn contact_step(
     state: BallState,
@@ -354,7 +371,7 @@ pub fn contact_step(
     let w = spin.dot(n);
     let patch = patch_of(n, surface, radius, k, w);
     let u = contact::slip(vel, spin, n, radius);
-    let len = u.length();
+    let len = slip_root(u.length_squared());
     if len > SLIP_EPS {
         return slide_step(patch, state, vel, dt, roll_threshold, u, len);
     }

@@ -12,15 +12,28 @@ unfolding heightOf
 returns c = simp (← c0, ← c .before .check-sheet .ensures, ne-eqb _ _ (c .if1 .taken))
 
 scanned-height-requires : tie.Need-scanned-height-requires
-scanned-height-requires c κs = sym (c .before .before .before .check-sheet .ensures) ∙ c .before .before .if1 .left
+scanned-height-requires c κs =
+    let at-check-sheet = c .before .before .before in
+    sym (at-check-sheet .check-sheet .ensures) ∙ c .before .before .if1 .left
 
 returns-2 : tie.Need-returns-2
 unfolding heightOf
-returns-2 c = simp (← c0, ← c .before .before .before .before .check-sheet .ensures, eq-eqb _ _ (c .before .before .before .if1 .left), ← c .before .before .spot-ok .ensures, c .before .if2 .taken, ← c .scanned-height .ensures)
+returns-2 c =
+    let at-if1 = c .before .before .before in
+    simp (
+      ← c0,
+      ← at-if1 .before .check-sheet .ensures,
+      eq-eqb _ _ (at-if1 .if1 .left),
+      ← c .before .before .spot-ok .ensures,
+      c .before .if2 .taken,
+      ← c .scanned-height .ensures,
+    )
 
 returns-3 : tie.Need-returns-3
 unfolding heightOf
-returns-3 c = simp (← c0, ← c .before .before .before .check-sheet .ensures, eq-eqb _ _ (c .before .before .if1 .left), ← c .before .spot-ok .ensures, c .if2 .left)
+returns-3 c =
+    let at-check-sheet = c .before .before .before in
+    simp (← c0, ← at-check-sheet .check-sheet .ensures, eq-eqb _ _ (c .before .before .if1 .left), ← c .before .spot-ok .ensures, c .if2 .left)
 
 pub height-spec : {M : Type 1} → statement M
 height-spec = tie.close (tie.spec (λ c κs. search needs) returns (λ c κs. search needs) scanned-height-requires returns-2 returns-3)

@@ -12,10 +12,15 @@ half-requires-2 : tie.Need-half-requires-2
 half-requires-2 c κs = let h = accepted (c .before .before .args .sheet .now) (c .before .before .pre) in omega (arith, h .long, h .some)
 
 find-patch-requires : tie.Need-find-patch-requires
-find-patch-requires c κs = (c .before .before .before .pre, (c .before .half .ensures, c .half2 .ensures))
+find-patch-requires c κs =
+    let at-start = c .before .before .before in
+    (at-start .pre, (c .before .half .ensures, c .half2 .ensures))
 
 height-of-requires : tie.Need-height-of-requires
-height-of-requires c κs = ((c .before .before .before .before .pre, (c .before .before .half .ensures, c .before .half2 .ensures)), c .find-patch .ensures)
+height-of-requires c κs =
+    let at-start = c .before .before .before .before in
+    ((at-start .pre, (c .before .before .half .ensures, c .before .half2 .ensures)), c .find-patch .ensures)
 
 pub scanned-height-spec : {M : Type 1} → statement M
-scanned-height-spec = tie.close (tie.spec half-requires (λ c. search needs) half-requires-2 (λ c. search needs) find-patch-requires height-of-requires (λ c. search needs))
+scanned-height-spec = tie.close (tie.spec half-requires (λ c. search needs) half-requires-2
+    (λ c. search needs) find-patch-requires height-of-requires (λ c. search needs))

@@ -8,19 +8,46 @@ use Rattle.course.proofs.surface_at.Tie as tie
 
 returns : tie.Need-returns
 unfolding surfaceOf
-returns c = simp (← c .before .before .before .before .before .before .before .before .before .whole .ensures, ← c .before .before .before .before .before .before .before .before .double .ensures, ← c .before .before .before .before .before .before .before .restitution-of .ensures, ← c .before .before .before .before .before .before .whole2 .ensures, ← c .before .before .before .before .before .double2 .ensures, ← c .before .before .before .before .law-of .ensures, ← c .before .before .before .number-at .ensures, ← c .before .before .number-at2 .ensures, ← c .before .number-at3 .ensures, ← c .number-at4 .ensures)
+returns c =
+    let at-number-at = c .before .before .before in
+    let at-whole2 = at-number-at .before .before .before in
+    let at-whole = at-whole2 .before .before .before in
+    simp (
+      ← at-whole .whole .ensures,
+      ← at-whole2 .before .before .double .ensures,
+      ← at-whole2 .before .restitution-of .ensures,
+      ← at-whole2 .whole2 .ensures,
+      ← at-number-at .before .before .double2 .ensures,
+      ← at-number-at .before .law-of .ensures,
+      ← at-number-at .number-at .ensures,
+      ← c .before .before .number-at2 .ensures,
+      ← c .before .number-at3 .ensures,
+      ← c .number-at4 .ensures,
+    )
 
 number-at-requires : tie.Need-number-at-requires
-number-at-requires c κs = (c .before .before .before .before .before .before .before .pre .0, (omega arith, surface-2 _ _ (c .before .before .before .before .before .before .before .pre .1)))
+number-at-requires c κs =
+    let at-shared-slice-known = c .before .before .before .before .before .before in
+    let at-start = at-shared-slice-known .before in
+    (at-start .pre .0, (omega arith, surface-2 _ _ (at-start .pre .1)))
 
 number-at-requires-2 : tie.Need-number-at-requires-2
-number-at-requires-2 c κs = (c .before .before .before .before .before .before .before .before .pre .0, (omega arith, surface-3 _ _ (c .before .before .before .before .before .before .before .before .pre .1)))
+number-at-requires-2 c κs =
+    let at-whole = c .before .before .before .before .before .before in
+    let at-start = at-whole .before .before in
+    (at-start .pre .0, (omega arith, surface-3 _ _ (at-start .pre .1)))
 
 number-at-requires-3 : tie.Need-number-at-requires-3
-number-at-requires-3 c κs = (c .before .before .before .before .before .before .before .before .before .pre .0, (omega arith, surface-6 _ _ (c .before .before .before .before .before .before .before .before .before .pre .1)))
+number-at-requires-3 c κs =
+    let at-double = c .before .before .before .before .before .before in
+    let at-start = at-double .before .before .before in
+    (at-start .pre .0, (omega arith, surface-6 _ _ (at-start .pre .1)))
 
 number-at-requires-4 : tie.Need-number-at-requires-4
-number-at-requires-4 c κs = (c .before .before .before .before .before .before .before .before .before .before .pre .0, (omega arith, surface-7 _ _ (c .before .before .before .before .before .before .before .before .before .before .pre .1)))
+number-at-requires-4 c κs =
+    let at-restitution-of = c .before .before .before .before .before .before in
+    let at-start = at-restitution-of .before .before .before .before in
+    (at-start .pre .0, (omega arith, surface-7 _ _ (at-start .pre .1)))
 
 first-whole : tie.Need-whole-requires
 first-whole c κs = (c .before .pre .0, omega arith)
@@ -29,10 +56,14 @@ first-double : tie.Need-double-requires
 first-double c κs = (c .before .before .pre .0, omega arith)
 
 second-whole : tie.Need-whole-requires-2
-second-whole c κs = (c .before .before .before .before .pre .0, omega arith)
+second-whole c κs =
+    let at-start = c .before .before .before .before in
+    (at-start .pre .0, omega arith)
 
 second-double : tie.Need-double-requires-2
-second-double c κs = (c .before .before .before .before .before .pre .0, omega arith)
+second-double c κs =
+    let at-start = c .before .before .before .before .before in
+    (at-start .pre .0, omega arith)
 
 pub surface-at-spec : {M : Type 1} → statement M
 surface-at-spec =

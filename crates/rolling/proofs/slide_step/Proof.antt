@@ -6,7 +6,9 @@ use Rattle.rolling.proofs.slide_step.Tie as tie
 
 returns : tie.Need-returns
 unfolding slideStep patchSlip
-returns c = simp (← c .before .before .before .before .before .before .before .slide-from .ensures, ← c .before .before .before .before .before .before .slid-to .ensures)
+returns c =
+    let at-slid-to = c .before .before .before .before .before .before in
+    simp (← at-slid-to .before .slide-from .ensures, ← at-slid-to .slid-to .ensures)
 
 slide-from-requires : tie.Need-slide-from-requires
 slide-from-requires c κs = unfold patchSlip in c .before .before .pre
