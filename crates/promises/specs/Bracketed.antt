@@ -9,15 +9,13 @@ use lib.Ieee.{Float, binary64, fits, le}
 use Rattle.number.specs.Ops.{_⊖_, dec}
 use Rattle.number.specs.Number.{minOf}
 use Rattle.number.specs.Against0.{StepLength}
-use Rattle.vector.specs.declared.DVec3.{DVec3}
 use Rattle.state.specs.declared.BallState.{BallState}
 use Rattle.state.specs.State.{stateOk}
-use Rattle.rk4.specs.declared.Motion.{Motion}
 use Rattle.search.specs.Search.{findRoot}
 use Rattle.search.specs.Evaluations.{Within}
 use Rattle.search.specs.declared.Bracket.{Bracket}
 use Rattle.slide.specs.Slide.{timeAtThreshold}
-use Rattle.slide.specs.declared.Patch.{Patch}
+use Rattle.slide.specs.declared.Turning.{Turning}
 use Rattle.look.specs.Tree.{Oracle, looks as looksIn}
 use Rattle.tally.specs.Language.{Log, onward, inM, evaluate, Pass, again, over}
 use Rattle.tally.specs.declared.Conditions.{Conditions}
@@ -76,8 +74,8 @@ module _ (c : Conditions) where
     -- `h = self.dt.min(t_end - state.time)` is a double above 0, at most dt
     pub step : StepLength (c .physics .dt) (minOf (c .physics .dt) (c .«t_end» ⊖ g .state .time))
     -- 01: "In `slide` the slip speed less the threshold takes the clearance's place": tau is found within 0..h
-    pub slide : (p : Patch) (start : Motion) (uHat₀ : DVec3) (s₀ threshold sFull : Float) → let h = minOf (c .physics .dt) (c .«t_end» ⊖ g .state .time) in
-        Within (dec 0 1) h (timeAtThreshold p start (g .state .time) h uHat₀ s₀ threshold sFull .0)
+    pub slide : (q : Turning) (s₀ threshold sFull : Float) → let h = minOf (c .physics .dt) (c .«t_end» ⊖ g .state .time) in
+        Within (dec 0 1) h (timeAtThreshold q h s₀ threshold sFull .0)
     -- 02, paper 4: "at most 200"
     pub evaluations : stepOn c g .evaluations ≤ 200
     -- the pass leads to no earlier time, by a slide, a roll or a stop

@@ -192,7 +192,7 @@ module _ (c : Conditions) (paced : Paced c) where
     ground-pass =
         record {
           step = due-step (g .state) timed due;
-          slide = λ p start uHat₀ s₀ threshold sFull. slide-time-within p start (g .state .time) (h (g .state) timed due) uHat₀ s₀ threshold sFull
+          slide = λ q s₀ threshold sFull. slide-time-within q (h (g .state) timed due) s₀ threshold sFull
               (due-step (g .state) timed due .double) from-0 (h-at-most (g .state) timed due);
           evaluations = pass-at-most-200 c g;
           onward = ground-leads;

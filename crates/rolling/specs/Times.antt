@@ -24,7 +24,7 @@ use Rattle.search.specs.Evaluations.{Within, largest}
 use Rattle.slide.specs.declared.Patch.{Patch}
 use Rattle.rolling.specs.declared.Stepped.{Stepped}
 use Rattle.slide.specs.declared.Slid.{Slid}
-use Rattle.slide.specs.Slide.{slipEps, minSwitchSlip, patchSlip, slipSpeed, slipDecay, slipRate, timeToRoll, slideTurning, finishOf}
+use Rattle.slide.specs.Slide.{slipEps, minSwitchSlip, patchSlip, slipSpeed, slipDecay, slipRate, timeToRoll, finishOf, turning, turnedAt}
 use Rattle.slide.specs.Slide.{finishFrom, timeAtThreshold, slideToThreshold, slideOnSlope, slideOf}
 use Rattle.rolling.specs.ContactStep.{patchOf, rollPatchOf, slideStep, headingOf, decelOf, stopsOf, stopTime, restOf, rollOn, rollStep, contactStepOf}
 use Rattle.slide.specs.RootSearch.{slide-time-within}
@@ -77,7 +77,7 @@ module _ (p : Patch) where
     dt-finite : T (finiteOf dt)
     dt-finite = between-finite (dec 0 1) largest dt 0-finite (unfold round in tt) h k
 
-    finish-from : (uHat₀ : DVec3) (root : Counted Float) → Within (dec 0 1) dt (root .0) → T (le (dec 0 1) (finishFrom p start t dt uHat₀ root .time))
+    finish-from : (uHat₀ : DVec3) (root : Counted Float) → Within (dec 0 1) dt (root .0) → T (le (dec 0 1) (finishFrom (turning p start t uHat₀) dt root .time))
     unfolding finishFrom
     finish-from uHat₀ root w =
         let tau = root .0 in
@@ -86,8 +86,9 @@ module _ (p : Patch) where
         let tf = between-finite (dec 0 1) dt tau 0-finite dt-finite a b in
         let l = sub-from-0 tau dt tf dt-finite b in
         let lf = between-finite (dec 0 1) dt (dt ⊖ tau) 0-finite dt-finite l (sub-shrinks dt tau f dt-finite tf a) in
-        let e = finish-within (slideTurning p start t tau uHat₀) (t ⊕ tau) (dt ⊖ tau) lf l in
-        let y = finishOf p (slideTurning p start t tau uHat₀) (t ⊕ tau) (dt ⊖ tau) .time in
+        let mid = turnedAt (turning p start t uHat₀) tau in
+        let e = finish-within mid (t ⊕ tau) (dt ⊖ tau) lf l in
+        let y = finishOf p mid (t ⊕ tau) (dt ⊖ tau) .time in
         let c = within-lo (dec 0 1) (dt ⊖ tau) y e in
         let yf = between-finite (dec 0 1) (dt ⊖ tau) y 0-finite lf c (within-hi (dec 0 1) (dt ⊖ tau) y e) in
         subst (λ (z : Float). T (le z (tau ⊕ y))) zeros (add-mono (dec 0 1) tau (dec 0 1) y 0-finite tf 0-finite yf a c)
@@ -99,14 +100,14 @@ module _ (p : Patch) where
         let threshold = maxOf rollThreshold minSwitchSlip in
         let u₀ = patchSlip p start in
         let s₀ = vlength u₀ in
-        let uHat₀ = vdivs u₀ s₀ in
-        let sFull = slipSpeed p (slideTurning p start t dt uHat₀) in
+        let q = turning p start t (vdivs u₀ s₀) in
+        let sFull = slipSpeed p (turnedAt q dt) in
         let flat = within-lo (dec 0 1) dt (finishOf p start t dt .time) (finish-within start t dt dt-finite h) in
         either From0 (sameVec (p .«g_t») zero3) (λ _. flat)
         (either From0 (le s₀ threshold) (λ _. flat)
         (either From0 (lt ((slipDecay p ⊕ vlength (p .«g_t»)) ⊗ dt) (s₀ ⊖ threshold)) (λ _. h)
         (either From0 (lt threshold sFull) (λ _. h)
-        (finish-from uHat₀ (timeAtThreshold p start t dt uHat₀ s₀ threshold sFull) (slide-time-within p start t dt uHat₀ s₀ threshold sFull f h k)))))
+        (finish-from (vdivs u₀ s₀) (timeAtThreshold q dt s₀ threshold sFull) (slide-time-within q dt s₀ threshold sFull f h k)))))
 
 -- with dt = (2^52 + 5) / 2^59, about 0.0078, and tau = 3 / 2^60: tau ⊕ (dt ⊖ tau) is the next double above dt
 pub sum-above : T (lt (fin false 4503599627370501 (negsuc 58)) (fin false 3 (negsuc 59) ⊕ (fin false 4503599627370501 (negsuc 58) ⊖ fin false 3 (negsuc 59))))

@@ -19,7 +19,8 @@ either true x = refl
 either false x = refl
 
 -- with the slip direction at s as the fallback, the stage at s has that direction, whatever its length
-pub at-start : (p : Patch) (s : Motion) {u w : DVec3} {len : Float} {k : Motion} → (u ≡ patchSlip p s) → len ≡ vlength u → w ≡ vdivs u len → k ≡ slideRate p s w → k ≡ turningRate p w s
+pub at-start : (p : Patch) (s : Motion) {u w : DVec3} {len : Float} {k : Motion} → (u ≡ patchSlip p s) → len ≡ vlength u → w ≡ vdivs u len
+    → k ≡ slideRate p s w → k ≡ turningRate p w s
 unfolding turningRate
 at-start p s a b d e = e ∙ simp (← a, ← b, ← d, either)
 
@@ -38,7 +39,8 @@ abbrev pub searchOn : (Float → Float) → ℕ → Search → Counted Float
 searchOn f n s = since n (rootFrom counting (counted f) (200 - n) s)
 
 -- one evaluation, and what follows from it
-module _ (f : Float → Float) (s : Search) (n : ℕ) {x fx : Float} {r : RootStep} (l : n < 200) (e : x ≡ inBracket s) (v : fx ≡ f x) (h : r ≡ narrowed s x fx) where
+module _ (f : Float → Float) (s : Search) (n : ℕ) {x fx : Float} {r : RootStep} (l : n < 200) (e : x ≡ inBracket s) (v : fx ≡ f x)
+    (h : r ≡ narrowed s x fx) where
   turned : {r' : RootStep} → r ≡ r' → since (n + 1) (afterStep counting (rootFrom counting (counted f) (200 - (n + 1))) r') ≡ searchOn f n s
   turned w =
       let m : 200 - n - 1 ≡ 200 - (n + 1) = omega arith in

@@ -11,6 +11,7 @@ use Rattle.contact.specs.Contact.{slipOf}
 use Rattle.search.specs.Search.{findRoot, Counted, counting, counted}
 use Rattle.slide.specs.declared.Patch.{Patch}
 use Rattle.slide.specs.declared.Slid.{Slid}
+use Rattle.slide.specs.declared.Turning.{Turning}
 
 -- `SLIP_EPS`
 abbrev pub slipEps : Float
@@ -83,43 +84,51 @@ finishOf p s t left =
     (record { motion = s; time = dec 0 1; rolls = true; evaluations = 0 })
     (record { motion = slideFixed p s t h uHat; time = h; rolls = le toRoll left; evaluations = 0 })
 
+-- a slide on a slope, whose slip direction turns: from where, when and in what slip direction it starts
+abbrev pub turning : Patch → Motion → Float → DVec3 → Turning
+turning p start t uHat₀ = record { patch = p; start = start; t = t; «u_hat0» = uHat₀ }
+
+-- fn slide, `patch.slide_turning(&start, t, tau, u_hat0)`
+abbrev pub turnedAt : Turning → Float → Motion
+turnedAt q tau = slideTurning q.patch q.start q.t tau q.«u_hat0»
+
 -- fn slide, its closure `above`: the slip speed at tau less the threshold
-unfoldable pub aboveOf : Patch → Motion → Float → DVec3 → Float → Float → Float
-aboveOf p start t uHat₀ threshold tau = slipSpeed p (slideTurning p start t tau uHat₀) ⊖ threshold
+unfoldable pub aboveOf : Turning → Float → Float → Float
+aboveOf q threshold tau = slipSpeed q.patch (turnedAt q tau) ⊖ threshold
 
 -- fn slide, `guess`
 unfoldable pub guessOf : Float → Float → Float → Float
 guessOf over rate dt = cond (lt (dec 0 1) rate) (over ⊘ rate) dt
 
 -- fn slide, `tau`: where the slip speed, s₀ at 0 and sFull at dt, reaches the threshold, and the evaluations made
-abbrev pub timeAtThreshold : Patch → Motion → Float → Float → DVec3 → Float → Float → Float → Counted Float
-timeAtThreshold p start t dt uHat₀ s₀ threshold sFull =
-    findRoot counting (counted (aboveOf p start t uHat₀ threshold))
+abbrev pub timeAtThreshold : Turning → Float → Float → Float → Float → Counted Float
+timeAtThreshold q dt s₀ threshold sFull =
+    findRoot counting (counted (aboveOf q threshold))
     (record { lo = dec 0 1; «f_lo» = s₀ ⊖ threshold; hi = dt; «f_hi» = sFull ⊖ threshold })
-    (guessOf (s₀ ⊖ threshold) (slipRate p uHat₀) dt)
+    (guessOf (s₀ ⊖ threshold) (slipRate q.patch q.«u_hat0») dt)
 
 -- fn slide, from `let tau` on: slide to tau with the direction turning, then finish along the direction there
-unfoldable pub finishFrom : Patch → Motion → Float → Float → DVec3 → Counted Float → Slid
-finishFrom p start t dt uHat₀ root =
+unfoldable pub finishFrom : Turning → Float → Counted Float → Slid
+finishFrom q dt root =
     let tau = root .0 in
-    let end = finishOf p (slideTurning p start t tau uHat₀) (t ⊕ tau) (dt ⊖ tau) in
+    let end = finishOf q.patch (turnedAt q tau) (q.t ⊕ tau) (dt ⊖ tau) in
     record { motion = end .motion; time = tau ⊕ end .time; rolls = end .rolls; evaluations = root .1 }
 
 -- fn slide, from `let full` on: a full step, or the step to the threshold and on from there
-unfoldable pub slideToThreshold : Patch → Motion → Float → Float → DVec3 → Float → Float → Slid
-slideToThreshold p start t dt uHat₀ s₀ threshold =
-    let full = slideTurning p start t dt uHat₀ in
-    let sFull = slipSpeed p full in
+unfoldable pub slideToThreshold : Turning → Float → Float → Float → Slid
+slideToThreshold q dt s₀ threshold =
+    let full = turnedAt q dt in
+    let sFull = slipSpeed q.patch full in
     cond (lt threshold sFull)
     (record { motion = full; time = dt; rolls = false; evaluations = 0 })
-    (finishFrom p start t dt uHat₀ (timeAtThreshold p start t dt uHat₀ s₀ threshold sFull))
+    (finishFrom q dt (timeAtThreshold q dt s₀ threshold sFull))
 
 -- fn slide, on a slope and above the threshold: at the rate `fastest` the slip may not reach the threshold within dt
-unfoldable pub slideOnSlope : Patch → Motion → Float → Float → DVec3 → Float → Float → Slid
-slideOnSlope p start t dt uHat₀ s₀ threshold =
-    cond (lt ((slipDecay p ⊕ vlength (p .«g_t»)) ⊗ dt) (s₀ ⊖ threshold))
-    (record { motion = slideTurning p start t dt uHat₀; time = dt; rolls = false; evaluations = 0 })
-    (slideToThreshold p start t dt uHat₀ s₀ threshold)
+unfoldable pub slideOnSlope : Turning → Float → Float → Float → Slid
+slideOnSlope q dt s₀ threshold =
+    cond (lt ((slipDecay q.patch ⊕ vlength q.patch.«g_t») ⊗ dt) (s₀ ⊖ threshold))
+    (record { motion = turnedAt q dt; time = dt; rolls = false; evaluations = 0 })
+    (slideToThreshold q dt s₀ threshold)
 
 -- fn slide
 unfoldable pub slideOf : Patch → Motion → Float → Float → Float → Slid
@@ -129,4 +138,4 @@ slideOf p start t dt rollThreshold =
     let s₀ = vlength u₀ in
     cond (sameVec (p .«g_t») zero3) (finishOf p start t dt)
     (cond (le s₀ threshold) (finishOf p start t dt)
-    (slideOnSlope p start t dt (vdivs u₀ s₀) s₀ threshold))
+    (slideOnSlope (turning p start t (vdivs u₀ s₀)) dt s₀ threshold))

@@ -2,7 +2,7 @@
 ghost use mathlib.Core.Path.{_≡_};
 ghost use Rattle.vector.specs.Vec.{vlength};
 ghost use Rattle.search.specs.Search.{findRoot, counting, counted};
-ghost use Rattle.slide.specs.Slide.{slideAccel, slideSpinAccel, slideRate, fixedRate, slideFixed, patchSlip, turningRate, slideTurning, slipSpeed, slipDecay, slipRate, timeToRoll, finishOf, aboveOf, guessOf, finishFrom, slideToThreshold, slideOnSlope, slideOf};
+ghost use Rattle.slide.specs.Slide.{slideAccel, slideSpinAccel, slideRate, fixedRate, slideFixed, patchSlip, turningRate, slideTurning, slipSpeed, slipDecay, slipRate, timeToRoll, finishOf, turnedAt, aboveOf, guessOf, finishFrom, slideToThreshold, slideOnSlope, slideOf};
 use rk4::Motion;
 use search::Bracket;
 use search::Root;
@@ -31,6 +31,14 @@ pub struct Slid {
     pub time: f64,
     pub rolls: bool,
     pub evaluations: u64,
+}
+
+// A slide on a slope, whose slip direction turns: from where, when and in what slip direction it starts.
+pub struct Turning {
+    pub patch: Patch,
+    pub start: Motion,
+    pub t: f64,
+    pub u_hat0: DVec3,
 }
 
 impl Patch {
@@ -181,19 +189,23 @@ fn finish(patch: Patch, s: Motion, t: f64, left: f64, u: DVec3, len: f64) -> Sli
     }
 }
 
-fn above(
-    patch: Patch,
-    start: Motion,
-    t: f64,
-    u_hat0: DVec3,
-    k1: Motion,
-    threshold: f64,
-    tau: f64,
-) -> f64
-    requires { ⌜ k1 ≡ turningRate patch «u_hat0» start ⌝ }
-    ensures { λ r. ⌜ r ≡ aboveOf patch start t «u_hat0» threshold tau ⌝ }
+// Where the slide is, tau after its start; k1 is the rate there.
+fn turned_at(q: Turning, k1: Motion, tau: f64) -> Motion
+    requires { ⌜ k1 ≡ turningRate (q .patch) (q .«u_hat0») (q .start) ⌝ }
+    ensures { λ r. ⌜ r ≡ turnedAt q tau ⌝ }
 {
-    patch.slip_speed(patch.slide_turning(start, t, tau, u_hat0, k1)) - threshold
+    let patch = q.patch;
+    let start = q.start;
+    let u_hat0 = q.u_hat0;
+    patch.slide_turning(start, q.t, tau, u_hat0, k1)
+}
+
+fn above(q: Turning, k1: Motion, threshold: f64, tau: f64) -> f64
+    requires { ⌜ k1 ≡ turningRate (q .patch) (q .«u_hat0») (q .start) ⌝ }
+    ensures { λ r. ⌜ r ≡ aboveOf q threshold tau ⌝ }
+{
+    let patch = q.patch;
+    patch.slip_speed(turned_at(q, k1, tau)) - threshold
 }
 
 fn guess_of(over: f64, rate: f64, dt: f64) -> f64
@@ -206,24 +218,15 @@ fn guess_of(over: f64, rate: f64, dt: f64) -> f64
 }
 
 // The time at which the slip falls to the threshold, and the evaluations made, at most 200.
-fn time_at_threshold(
-    patch: Patch,
-    start: Motion,
-    t: f64,
-    u_hat0: DVec3,
-    k1: Motion,
-    threshold: f64,
-    b: Bracket,
-    guess: f64,
-) -> Root
-    requires { ⌜ k1 ≡ turningRate patch «u_hat0» start ⌝ }
-    ensures { λ r. ⌜ (r .x, r .evaluations) ≡ findRoot counting (counted (aboveOf patch start t «u_hat0» threshold)) b guess ⌝ }
+fn time_at_threshold(q: Turning, k1: Motion, threshold: f64, b: Bracket, guess: f64) -> Root
+    requires { ⌜ k1 ≡ turningRate (q .patch) (q .«u_hat0») (q .start) ⌝ }
+    ensures { λ r. ⌜ (r .x, r .evaluations) ≡ findRoot counting (counted (aboveOf q threshold)) b guess ⌝ }
 {
     let mut s = search::start_search(b, guess);
     let mut made: u64 = 0;
     while made < 200 {
         let x = search::in_bracket(s);
-        let fx = above(patch, start, t, u_hat0, k1, threshold, x);
+        let fx = above(q, k1, threshold, x);
         made += 1;
         let step = search::narrow(s, x, fx);
         match step {
@@ -245,22 +248,15 @@ fn time_at_threshold(
 }
 
 // Slide to the root's time with the slip direction turning, then finish along the direction there.
-fn finish_from(
-    patch: Patch,
-    start: Motion,
-    t: f64,
-    dt: f64,
-    u_hat0: DVec3,
-    k1: Motion,
-    root: Root,
-) -> Slid
-    requires { ⌜ k1 ≡ turningRate patch «u_hat0» start ⌝ }
-    ensures { λ r. ⌜ r ≡ finishFrom patch start t dt «u_hat0» (root .x, root .evaluations) ⌝ }
+fn finish_from(q: Turning, k1: Motion, dt: f64, root: Root) -> Slid
+    requires { ⌜ k1 ≡ turningRate (q .patch) (q .«u_hat0») (q .start) ⌝ }
+    ensures { λ r. ⌜ r ≡ finishFrom q dt (root .x, root .evaluations) ⌝ }
 {
+    let patch = q.patch;
     let tau = root.x;
-    let mid = patch.slide_turning(start, t, tau, u_hat0, k1);
+    let mid = turned_at(q, k1, tau);
     let u = patch.slip_of(mid);
-    let end = finish(patch, mid, t + tau, dt - tau, u, u.length());
+    let end = finish(patch, mid, q.t + tau, dt - tau, u, u.length());
     let motion = end.motion;
     Slid {
         motion,
@@ -271,20 +267,13 @@ fn finish_from(
 }
 
 // A full step, or where the slip falls to the threshold within it, the slide to there and on.
-fn slide_to_threshold(
-    patch: Patch,
-    start: Motion,
-    t: f64,
-    dt: f64,
-    u_hat0: DVec3,
-    k1: Motion,
-    s0: f64,
-    threshold: f64,
-) -> Slid
-    requires { ⌜ k1 ≡ turningRate patch «u_hat0» start ⌝ }
-    ensures { λ r. ⌜ r ≡ slideToThreshold patch start t dt «u_hat0» s0 threshold ⌝ }
+fn slide_to_threshold(q: Turning, k1: Motion, dt: f64, s0: f64, threshold: f64) -> Slid
+    requires { ⌜ k1 ≡ turningRate (q .patch) (q .«u_hat0») (q .start) ⌝ }
+    ensures { λ r. ⌜ r ≡ slideToThreshold q dt s0 threshold ⌝ }
 {
-    let full = patch.slide_turning(start, t, dt, u_hat0, k1);
+    let patch = q.patch;
+    let u_hat0 = q.u_hat0;
+    let full = turned_at(q, k1, dt);
     let s_full = patch.slip_speed(full);
     if s_full > threshold {
         return Slid {
@@ -301,35 +290,27 @@ fn slide_to_threshold(
         hi: dt,
         f_hi: s_full - threshold,
     };
-    let root = time_at_threshold(patch, start, t, u_hat0, k1, threshold, b, guess);
-    finish_from(patch, start, t, dt, u_hat0, k1, root)
+    let root = time_at_threshold(q, k1, threshold, b, guess);
+    finish_from(q, k1, dt, root)
 }
 
 // A slide on a slope that starts above the threshold.
-fn slide_on_slope(
-    patch: Patch,
-    start: Motion,
-    t: f64,
-    dt: f64,
-    u_hat0: DVec3,
-    k1: Motion,
-    s0: f64,
-    threshold: f64,
-) -> Slid
-    requires { ⌜ k1 ≡ turningRate patch «u_hat0» start ⌝ }
-    ensures { λ r. ⌜ r ≡ slideOnSlope patch start t dt «u_hat0» s0 threshold ⌝ }
+fn slide_on_slope(q: Turning, k1: Motion, dt: f64, s0: f64, threshold: f64) -> Slid
+    requires { ⌜ k1 ≡ turningRate (q .patch) (q .«u_hat0») (q .start) ⌝ }
+    ensures { λ r. ⌜ r ≡ slideOnSlope q dt s0 threshold ⌝ }
 {
+    let patch = q.patch;
     let g_t = patch.g_t;
     let fastest = patch.slip_decay() + g_t.length();
     if s0 - threshold > fastest * dt {
         return Slid {
-            motion: patch.slide_turning(start, t, dt, u_hat0, k1),
+            motion: turned_at(q, k1, dt),
             time: dt,
             rolls: false,
             evaluations: 0,
         };
     }
-    slide_to_threshold(patch, start, t, dt, u_hat0, k1, s0, threshold)
+    slide_to_threshold(q, k1, dt, s0, threshold)
 }
 
 // A slide whose slip is `u0`, of length `s0`. The turning slide's first stage has the slip direction there, and its rate serves every use.
@@ -355,7 +336,13 @@ pub fn slide_from(
     }
     let u_hat0 = u0.div(s0);
     let k1 = patch.slide_rate(start, u_hat0);
-    slide_on_slope(patch, start, t, dt, u_hat0, k1, s0, threshold)
+    let q = Turning {
+        patch,
+        start,
+        t,
+        u_hat0,
+    };
+    slide_on_slope(q, k1, dt, s0, threshold)
 }
 
 // Slide from `start`, with slip above SLIP_EPS, for at most `dt`.

@@ -5,10 +5,10 @@ use Rattle.slide.proofs.above.Tie as tie
 
 returns : tie.Need-returns
 unfolding aboveOf
-returns c = simp (← c .before .slide-turning .ensures, ← c .slip-speed .ensures)
+returns c = simp (← c .before .turned-at .ensures, ← c .slip-speed .ensures)
 
-slide-turning-requires : tie.Need-slide-turning-requires
-slide-turning-requires c κs = c .pre
+turned-at-requires : tie.Need-turned-at-requires
+turned-at-requires c κs = c .before .pre
 
 pub above-spec : {M : Type 1} → statement M
-above-spec = tie.close (tie.spec slide-turning-requires (λ c κs. tt) returns)
+above-spec = tie.close (tie.spec turned-at-requires (λ c κs. tt) returns)

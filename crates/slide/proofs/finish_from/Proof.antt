@@ -5,13 +5,15 @@ use Rattle.slide.proofs.finish_from.Tie as tie
 
 returns : tie.Need-returns
 unfolding finishFrom
-returns c = simp (← c .before .before .before .before .before .slide-turning .ensures, ← c .before .before .finish .ensures)
+returns c =
+    let at-turned-at : tie.After-turned-at = search in
+    simp (← at-turned-at .turned-at .ensures, ← c .before .before .finish .ensures)
 
-slide-turning-requires : tie.Need-slide-turning-requires
-slide-turning-requires c κs = c .pre
+turned-at-requires : tie.Need-turned-at-requires
+turned-at-requires c κs = c .before .pre
 
 finish-requires : tie.Need-finish-requires
-finish-requires c κs = (c .before .slip-of .ensures, c .length .ensures)
+finish-requires c κs = (c .before .before .slip-of .ensures, c .length .ensures)
 
 pub finish-from-spec : {M : Type 1} → statement M
-finish-from-spec = tie.close (tie.spec slide-turning-requires (λ c κs. tt) (λ c κs. tt) finish-requires returns)
+finish-from-spec = tie.close (tie.spec turned-at-requires (λ c κs. tt) (λ c κs. tt) finish-requires returns)

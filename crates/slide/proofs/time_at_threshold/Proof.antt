@@ -10,11 +10,10 @@ use Rattle.slide.proofs.time_at_threshold.Statement.{statement}
 use Rattle.slide.proofs.time_at_threshold.Tie as tie
 
 abbrev Inv-loop : tie.InvT-loop
-Inv-loop patch start t u-hat0 k1 threshold guess s₀ made₀ s made =
-    searchOn (aboveOf patch start t u-hat0 threshold) made s ≡ searchOn (aboveOf patch start t u-hat0 threshold) made₀ s₀
+Inv-loop q k1 threshold guess s₀ made₀ s made = searchOn (aboveOf q threshold) made s ≡ searchOn (aboveOf q threshold) made₀ s₀
 
 abbrev μ-loop : tie.MeasureT-loop
-μ-loop patch start t u-hat0 k1 threshold guess s₀ made₀ s made = 200 - made
+μ-loop q k1 threshold guess s₀ made₀ s made = 200 - made
 
 loop-holds : tie.Need-loop-holds Inv-loop μ-loop
 loop-holds c = refl
@@ -33,8 +32,8 @@ loop-less c = omega (arith, c .before .before .before .before .before .before .l
 
 loop-again : tie.Need-loop-again Inv-loop μ-loop
 loop-again c =
-    let at-narrow = c .before .before .before in
-    let at-loop-test = at-narrow .before .before .before in
+    let at-narrow : tie.After-narrow Inv-loop μ-loop = search in
+    let at-loop-test : tie.In-loop Inv-loop μ-loop = search in
     goes-on _ _ _ (at-loop-test .loop-test .taken) (at-narrow .before .before .in-bracket .ensures) (at-narrow .before .above .ensures)
     (at-narrow .narrow .ensures) (c .before .step .given .1) ∙ at-loop-test .before .loop .inv
 
@@ -44,8 +43,8 @@ enum-known-step-2 c = search needs
 returns : tie.Need-returns Inv-loop μ-loop
 unfolding findRoot
 returns c =
-    let at-narrow = c .before .before .before in
-    let at-loop-test = at-narrow .before .before .before in
+    let at-narrow : tie.After-narrow Inv-loop μ-loop = search in
+    let at-loop-test : tie.In-loop Inv-loop μ-loop = search in
     rw (← at-loop-test .before .before .start-search .ensures)
     (found _ _ _ (at-loop-test .loop-test .taken) (at-narrow .before .before .in-bracket .ensures) (at-narrow .before .above .ensures)
     (at-narrow .narrow .ensures) (c .before .step2 .given .1) ∙ at-loop-test .before .loop .inv ∙ since-0 _)

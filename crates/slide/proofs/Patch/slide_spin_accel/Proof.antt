@@ -5,7 +5,9 @@ use Rattle.slide.proofs.Patch.slide_spin_accel.Tie as tie
 
 returns : tie.Need-returns
 unfolding slideSpinAccel
-returns c = simp (← c .before .before .before .before .cross .ensures, ← c .before .before .before .scale .ensures, ← c .before .div .ensures, ← c .add .ensures)
+returns c =
+    let at-scale : tie.After-scale = search in
+    simp (← at-scale .before .cross .ensures, ← at-scale .scale .ensures, ← c .before .div .ensures, ← c .add .ensures)
 
 pub slide-spin-accel-spec : {M : Type 1} → statement M
 slide-spin-accel-spec = tie.close (tie.spec (λ c κs. tt) (λ c κs. tt) (λ c κs. tt) (λ c κs. tt) returns)

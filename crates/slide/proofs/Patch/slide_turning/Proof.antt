@@ -7,7 +7,16 @@ use Rattle.slide.proofs.Patch.slide_turning.Tie as tie
 
 returns : tie.Need-returns
 unfolding slideTurning ofBits round
-returns c = let h = c .before .before .before .before .before .before .before .before .before .before .pre in stages _ _ _ _ h (c .before .before .before .before .before .before .before .before .before .add-scaled .ensures) (c .before .before .before .before .before .before .before .before .turning-rate .ensures) (c .before .before .before .before .before .before .before .add-scaled2 .ensures) (c .before .before .before .before .before .before .turning-rate2 .ensures) (c .before .before .before .before .before .add-scaled3 .ensures) (c .before .before .before .before .turning-rate3 .ensures) (c .before .before .before .add-scaled4 .ensures) (c .before .before .add-scaled5 .ensures) (c .before .add-scaled6 .ensures) (c .add-scaled7 .ensures)
+returns c =
+    let at-add-scaled4 : tie.After-add-scaled4 = search in
+    let at-turning-rate2 : tie.After-turning-rate2 = search in
+    let at-add-scaled : tie.After-add-scaled = search in
+    let h = at-add-scaled .before .pre in stages _ _ _ _ h (at-add-scaled .add-scaled .ensures)
+    (at-turning-rate2 .before .before .turning-rate .ensures) (at-turning-rate2 .before .add-scaled2 .ensures)
+    (at-turning-rate2 .turning-rate2 .ensures) (at-add-scaled4 .before .before .add-scaled3 .ensures)
+    (at-add-scaled4 .before .turning-rate3 .ensures) (at-add-scaled4 .add-scaled4 .ensures) (c .before .before .add-scaled5 .ensures)
+    (c .before .add-scaled6 .ensures) (c .add-scaled7 .ensures)
 
 pub slide-turning-spec : {M : Type 1} → statement M
-slide-turning-spec = tie.close (tie.spec (λ c κs. tt) (λ c κs. tt) (λ c κs. tt) (λ c κs. tt) (λ c κs. tt) (λ c κs. tt) (λ c κs. tt) (λ c κs. tt) (λ c κs. tt) (λ c κs. tt) returns)
+slide-turning-spec = tie.close (tie.spec (λ c κs. tt) (λ c κs. tt) (λ c κs. tt) (λ c κs. tt) (λ c κs. tt) (λ c κs. tt) (λ c κs. tt) (λ c κs. tt)
+    (λ c κs. tt) (λ c κs. tt) returns)

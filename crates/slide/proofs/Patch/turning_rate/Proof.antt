@@ -6,11 +6,21 @@ use Rattle.slide.proofs.Patch.turning_rate.Tie as tie
 
 returns : tie.Need-returns
 unfolding turningRate ofBits round
-returns c = simp (← c .before .before .before .before .slip-of .ensures, ← c .before .before .before .length .ensures, ← c .before .div .ensures, ← c .slide-rate .ensures, c .before .before .if1 .taken)
+returns c =
+    let at-length : tie.After-length = search in
+    simp (
+      ← at-length .before .slip-of .ensures,
+      ← at-length .length .ensures,
+      ← c .before .div .ensures,
+      ← c .slide-rate .ensures,
+      c .before .before .if1 .taken,
+    )
 
 returns-2 : tie.Need-returns-2
 unfolding turningRate ofBits round
-returns-2 c = simp (← c .before .before .before .slip-of .ensures, ← c .before .before .length .ensures, ← c .slide-rate2 .ensures, c .before .if1 .left)
+returns-2 c =
+    let at-slip-of : tie.After-slip-of = search in
+    simp (← at-slip-of .slip-of .ensures, ← c .before .before .length .ensures, ← c .slide-rate2 .ensures, c .before .if1 .left)
 
 pub turning-rate-spec : {M : Type 1} → statement M
 turning-rate-spec = tie.close (tie.spec (λ c κs. tt) (λ c κs. tt) (λ c κs. tt) (λ c κs. tt) returns (λ c κs. tt) returns-2)
