@@ -26,9 +26,13 @@ resultFields s =
     wholeOf (s .answer) ∷ wholeOf (terminationNumber (s .termination)) ∷ wholeOf (s .contacts) ∷ wholeOf (s .points) ∷ wholeOf (s .steps)
     ∷ (stateFields (s .rest) ++ (rectFields (s .rect) ++ (wholeOf (s .evaluations) ∷ [])))
 
--- a list with room for 20 gets the result and keeps its tail; a shorter one is untouched
+-- how many they are
+abbrev pub resultLength : ℕ
+resultLength = 20
+
+-- a list with room for them gets the result and keeps its tail; a shorter one is untouched
 unfoldable pub reported : Settled → List Float → List Float
-reported s l = cond (leb 20 (length l)) (written l 0 (resultFields s)) l
+reported s l = cond (leb resultLength (length l)) (written l 0 (resultFields s)) l
 
 -- ---- an answer and the lists as they are then
 
@@ -66,10 +70,14 @@ settleFadingDoorOf = settleDoorBy true
 unfoldable pub stepped : StepOut → List Float → Door
 stepped r l = cond (eqb (r .answer) 0) (door 0 (written l 0 (stateFields (r .state) ++ (wholeOf (r .phase) ∷ [])))) (door (r .answer) (written l 10 (dec 0 1 ∷ [])))
 
+-- a state and its phase
+abbrev pub stateLength : ℕ
+stateLength = 11
+
 -- 100 for a length that is not the one named
 unfoldable pub stepDoorOf : List ℕ → List Float → List Float → List Float → Door
 stepDoorOf sheet p b l =
-    cond (eqb (length p) 3 && (eqb (length b) 12 && eqb (length l) 11))
+    cond (eqb (length p) 3 && (eqb (length b) 12 && eqb (length l) stateLength))
     (stepped (stepOf sheet (doubleAt p 0) (doubleAt p 1) (doubleAt p 2) (ballAt b 0) (stateAt l 0)) l)
     (door 100 l)
 

@@ -2,7 +2,7 @@
 // these functions' own answers.
 ghost use mathlib.Core.Path.{_≡_};
 ghost use lib.ListN.{length};
-ghost use Rattle.capi.specs.Doors.{reported, stepped, struck, door, settleDoor, settleDoorOf, settleFadingDoorOf, stepDoorOf, impactDoorOf, heightDoorOf};
+ghost use Rattle.capi.specs.Doors.{stateLength, reported, stepped, struck, door, settleDoor, settleDoorOf, settleFadingDoorOf, stepDoorOf, impactDoorOf, heightDoorOf};
 ghost use Rattle.capi.specs.Aims.{aimDoor, aimDoorOf};
 ghost use Rattle.capi.specs.Cards.{cardDoor, cardDoorOf};
 ghost use Rattle.capi.specs.Listens.{listenDoor, listenDoorOf};
@@ -18,11 +18,16 @@ use ground::ImpactOut;
 use ground::Settled;
 use ground::StepOut;
 
-// The 20 doubles of a settle's result, if there is room for them.
+// The doubles of a settle's result, and of a step's state and phase.
+const RESULT_LENGTH: usize = 20;
+
+const STATE_LENGTH: usize = 11;
+
+// The doubles of a settle's result, if there is room for them.
 fn write_result(result: &mut [f64], s: Settled)
     ensures { λ _. ⌜ now (result .exit) ≡ reported s (now (result .entry)) ⌝ }
 {
-    if result.len() < 20 {
+    if result.len() < RESULT_LENGTH {
         return;
     }
     let termination = s.termination;
@@ -153,7 +158,7 @@ pub extern "C" fn dimple_listen(
 
 // The new state and its phase; on a number the phase alone, 0.
 fn write_step(state: &mut [f64], r: StepOut) -> u32
-    requires { ⌜ length (now state) ≡ 11 ⌝ }
+    requires { ⌜ length (now state) ≡ stateLength ⌝ }
     ensures { λ a. ⌜ door a (now (state .exit)) ≡ stepped r (now (state .entry)) ⌝ }
 {
     let answer = r.answer;
@@ -194,7 +199,7 @@ pub extern "C" fn dimple_step(sheet: &[u8], physics: &[f64], ball: &[f64], state
     if ball.len() != 12 {
         return 100;
     }
-    if state.len() != 11 {
+    if state.len() != STATE_LENGTH {
         return 100;
     }
     let s = fields::state_at(state, 0);

@@ -6,6 +6,7 @@ use mathlib.Core.List.{List, [], _∷_, _++_}
 use lib.Dec.{leb, ltb, eqb}
 use lib.ListN.{length, drop}
 use lib.Ieee.{Float, lt}
+use Rattle.tally.specs.Language.{contactWidth}
 use Rattle.number.specs.Ops.{dec}
 use Rattle.state.specs.declared.Termination.{Termination}
 use Rattle.ground.specs.Settle.{Result, result}
@@ -37,10 +38,10 @@ placeAt cs o =
     (rightOf 14 (valueOf 100 (doubleAt cs (o + 1))) ++ rightOf 14 (valueOf 100 (doubleAt cs (o + 2)))) ++ rightOf 14 (valueOf 100 (doubleAt cs (o + 3)))
 
 -- "Each contact line has the contact number (4 wide), time in milliseconds (11), and x, y, z ..., then two spaces". The contact at index i of a contact
--- list (01: "20 a record: time, pos, .."); "Contact numbers start at 1"
+-- list, whose records begin with time and pos; "Contact numbers start at 1"
 unfoldable pub contactAt : List Float → ℕ → List ℕ
 contactAt cs i =
-    ((rightOf 4 (decimalOf (i + 1)) ++ rightOf 11 (valueOf 1000 (doubleAt cs (20 * i)))) ++ placeAt cs (20 * i)) ++ (blanks 2 ++ lineEnd)
+    ((rightOf 4 (decimalOf (i + 1)) ++ rightOf 11 (valueOf 1000 (doubleAt cs (contactWidth * i)))) ++ placeAt cs (contactWidth * i)) ++ (blanks 2 ++ lineEnd)
 
 -- the lines of the first n contacts
 unfoldable pub linesOf : List Float → ℕ → List ℕ

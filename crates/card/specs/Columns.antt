@@ -7,6 +7,7 @@ use mathlib.Core.List.{List, [], _∷_, _++_}
 use lib.Dec.{T, ltb}
 use lib.ListN.{length, length-append, length-replicate}
 use lib.Ieee.{Float, lt}
+use Rattle.tally.specs.Language.{contactWidth}
 use Rattle.number.specs.Ops.{dec}
 use Rattle.number.specs.Number.{aboutOf}
 use Rattle.state.specs.declared.Termination.{Termination}
@@ -41,10 +42,10 @@ place-fits x h = record { about = h; scale = omega arith; fits = let k = value-f
 -- the texts of a contact, none wider than its column
 pub record Fit (cs : List Float) (i : ℕ) : Type 0 where
   pub number : length (decimalOf (i + 1)) ≤ 4
-  pub time : length (valueOf 1000 (doubleAt cs (20 * i))) ≤ 11
-  pub x : length (valueOf 100 (doubleAt cs (20 * i + 1))) ≤ 14
-  pub y : length (valueOf 100 (doubleAt cs (20 * i + 2))) ≤ 14
-  pub z : length (valueOf 100 (doubleAt cs (20 * i + 3))) ≤ 14
+  pub time : length (valueOf 1000 (doubleAt cs (contactWidth * i))) ≤ 11
+  pub x : length (valueOf 100 (doubleAt cs (contactWidth * i + 1))) ≤ 14
+  pub y : length (valueOf 100 (doubleAt cs (contactWidth * i + 2))) ≤ 14
+  pub z : length (valueOf 100 (doubleAt cs (contactWidth * i + 3))) ≤ 14
 
 pub spot-fits : (cs : List Float) (i : ℕ) → Spot cs i → Fit cs i
 spot-fits cs i s =
@@ -82,8 +83,8 @@ pub line-60 : (cs : List Float) (i : ℕ) → Spot cs i → length (contactAt cs
 unfolding contactAt
 line-60 cs i s =
     let n = right-long 4 (decimalOf (i + 1)) (number-fits (i + 1) (s .number)) in
-    let t = right-long 11 (valueOf 1000 (doubleAt cs (20 * i))) (time-fits _ (s .time) .fits) in
-    let p = place-42 cs (20 * i) (s .place) in
+    let t = right-long 11 (valueOf 1000 (doubleAt cs (contactWidth * i))) (time-fits _ (s .time) .fits) in
+    let p = place-42 cs (contactWidth * i) (s .place) in
     simp (length-append, n, t, p)
 
 pub lines-60 : (cs : List Float) (n : ℕ) → Printable cs n → length (linesOf cs n) ≡ 60 * n

@@ -17,7 +17,7 @@ use Rattle.state.specs.State.{coordOk, vecOk, stateOk}
 use Rattle.state.specs.declared.BallState.{BallState}
 use Rattle.look.specs.Tree.{Oracle}
 use Rattle.course.specs.Sheet.{courseOf}
-use Rattle.tally.specs.Language.{contactOf}
+use Rattle.tally.specs.Language.{contactWidth, contactOf}
 use Rattle.records.specs.Records.{Records, flat, shown}
 use Rattle.ground.specs.Settle.{Result, settleOf}
 use Rattle.promises.specs.Terms.{Each, ContactOf}
@@ -29,14 +29,14 @@ use Rattle.card.specs.Card.{headingLine, contactAt, linesOf, textOf}
 use Rattle.card.specs.Inner.{Place, Spot, Printable}
 use Rattle.card.specs.Columns.{Fit, spot-fits, heading-60, line-60, lines-60}
 
--- ---- a record in a list of records of 20 doubles
+-- ---- a record in a list of records as wide as a contact
 record Found (P : List Float → Type 0) (l : List Float) (i : ℕ) : Type 0 where
   pub rec : List Float
   pub holds : P rec
-  pub reads : (j : ℕ) → j < 20 → doubleAt l (20 * i + j) ≡ doubleAt rec j
-  pub held : 20 * i + 20 ≤ length l
+  pub reads : (j : ℕ) → j < contactWidth → doubleAt l (contactWidth * i + j) ≡ doubleAt rec j
+  pub held : contactWidth * i + contactWidth ≤ length l
 
-module _ (P : List Float → Type 0) (wide : (r : List Float) → P r → length r ≡ 20) where
+module _ (P : List Float → Type 0) (wide : (r : List Float) → P r → length r ≡ contactWidth) where
   first : (r l : List Float) → P r → Found P (r ++ l) 0
   first r l p =
       let e = wide r p in
@@ -55,8 +55,8 @@ module _ (P : List Float → Type 0) (wide : (r : List Float) → P r → length
         rec = f .rec;
         holds = f .holds;
         reads = λ j k.
-            let n : 20 * suc i + j ≡ length r + (20 * i + j) = omega arith in
-            ap (λ (q : ℕ). doubleAt (r ++ l) q) n ∙ getD-append-add r l (20 * i + j) nan ∙ f .reads j k;
+            let n : contactWidth * suc i + j ≡ length r + (contactWidth * i + j) = omega arith in
+            ap (λ (q : ℕ). doubleAt (r ++ l) q) n ∙ getD-append-add r l (contactWidth * i + j) nan ∙ f .reads j k;
         held = omega (arith, length-append r l);
       }
 
@@ -73,7 +73,7 @@ abbrev Near : Float → Type 0
 Near x = T (aboutOf (dec 1000000 1) x)
 
 module _ (o : Oracle) where
-  contact-wide : (r : List Float) → ContactOf o r → length r ≡ 20
+  contact-wide : (r : List Float) → ContactOf o r → length r ≡ contactWidth
   contact-wide r h = ap length (h .is)
 
   about : (s : BallState) → T (stateOk s) → Near (s .time) × (Near (s .pos .x) × Near (s .pos .y) × Near (s .pos .z))
@@ -95,7 +95,7 @@ module _ (o : Oracle) where
       let c = f .holds in
       let a = about (c .arrival) (subst T (sym (c .came)) tt) in
       let k = contactOf (c .arrival) (c .sample) (c .departure) in
-      let read : (j : ℕ) → j < 20 → (y : Float) → doubleAt k j ≡ y → Near y → Near (doubleAt l (20 * i + j)) =
+      let read : (j : ℕ) → j < contactWidth → (y : Float) → doubleAt k j ≡ y → Near y → Near (doubleAt l (contactWidth * i + j)) =
       λ j q y e t. subst Near (sym (f .reads j q ∙ ap (λ (r : List Float). doubleAt r j) (c .is) ∙ e)) t in
       let h = f .held in
       record {

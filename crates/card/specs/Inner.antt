@@ -4,6 +4,7 @@ use mathlib.Core.List.{List}
 use lib.Dec.{T}
 use lib.ListN.{length}
 use lib.Ieee.{Float}
+use Rattle.tally.specs.Language.{contactWidth}
 use Rattle.number.specs.Ops.{dec}
 use Rattle.number.specs.Number.{aboutOf}
 use Rattle.fields.specs.Fields.{doubleAt}
@@ -25,8 +26,8 @@ pub record Place (cs : List Float) (o : ℕ) : Type 0 where
 -- the contact at index i has a number of at most 4 digits, and its time and place are such
 pub record Spot (cs : List Float) (i : ℕ) : Type 0 where
   pub number : i + 1 ≤ 9999
-  pub time : T (aboutOf (dec 1000000 1) (doubleAt cs (20 * i)))
-  pub place : Place cs (20 * i)
+  pub time : T (aboutOf (dec 1000000 1) (doubleAt cs (contactWidth * i)))
+  pub place : Place cs (contactWidth * i)
 
 -- each of the first n contacts
 abbrev pub Printable : List Float → ℕ → Type 0

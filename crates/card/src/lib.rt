@@ -33,7 +33,7 @@ fn put_contact(page: &mut [u8], at: usize, contacts: &[f64], i: usize) -> usize
     requires { ⌜ (at + 60 ≤ length (now page)) × Spot (now contacts) i ⌝ }
     ensures { λ r. ⌜ Fills 60 (now (page .entry)) at (contactAt (now (contacts .entry)) i) r (now (page .exit)) ⌝ }
 {
-    let o = 20 * i;
+    let o = tally::CONTACT_WIDTH * i;
     let a = text::put_signed_right(page, at, 4, false, i as u64 + 1);
     let b = put_value(page, a, 11, contacts[o], 1000);
     let c = put_place(page, b, contacts, o);

@@ -9,7 +9,7 @@ use lib.ListN.{length}
 use lib.Ieee.{Float}
 use borrow.Author.Tests.{leb-true}
 use Rattle.number.specs.Ops.{if_then_else_}
-use Rattle.listen.specs.Listen.{contactTimes, timesOk, contactsWhole, allTimesOk, toleranceOk, refusalOf}
+use Rattle.listen.specs.Listen.{recordWidth, contactTimes, timesOk, contactsWhole, allTimesOk, toleranceOk, refusalOf}
 
 pub and-left : (a b : Bool) → a && b ≡ true → a ≡ true
 and-left true b e = refl
@@ -19,9 +19,9 @@ pub and-right : (a b : Bool) → a && b ≡ true → b ≡ true
 and-right true b e = e
 and-right false b e = absurd (T-not true (subst T (sym e) tt) tt)
 
-pub whole-holds : (len n : ℕ) → contactsWhole len n ≡ true → n * 20 ≤ len
+pub whole-holds : (len n : ℕ) → contactsWhole len n ≡ true → n * recordWidth ≤ len
 unfolding contactsWhole
-whole-holds len n e = leb-true (n * 20) len (and-right (eqb (len % 20) 0) (leb (n * 20) len) e)
+whole-holds len n e = leb-true (n * recordWidth) len (and-right (eqb (len % recordWidth) 0) (leb (n * recordWidth) len) e)
 
 module _ (heard contacts : List Float) (n : ℕ) where
   module _ (e : allTimesOk heard contacts n ≡ true) where
@@ -39,7 +39,7 @@ module _ (heard contacts : List Float) (n : ℕ) where
 
   module _ (t : Float) (room : ℕ) where
     pub record Accepted : Type 0 where
-      pub whole : n * 20 ≤ length contacts
+      pub whole : n * recordWidth ≤ length contacts
       pub few : length heard ≤ 256
       pub heard-times : timesOk heard ≡ true
       pub contact-times : timesOk (contactTimes n contacts) ≡ true

@@ -18,9 +18,13 @@ unfoldable pub firsts : ℕ → ℕ → List Float → List Float
 firsts w zero l = []
 firsts w (suc n) l = getD l 0 nan ∷ firsts w n (drop w l)
 
--- the times of the first n contacts of a contact list (01: "20 a record: time, pos, ..")
+-- the numbers of a contact. 01: "20 a record: time, pos, .."
+abbrev pub recordWidth : ℕ
+recordWidth = 20
+
+-- the times of the first n contacts of a contact list
 abbrev pub contactTimes : ℕ → List Float → List Float
-contactTimes n l = firsts 20 n l
+contactTimes n l = firsts recordWidth n l
 
 -- ---- the walk: "Walk both lists from the front."
 
@@ -78,7 +82,7 @@ timesOk l = inOrder (dec 0 1) l
 
 -- "the contact list isn't whole records or is shorter than its count"
 unfoldable pub contactsWhole : ℕ → ℕ → Bool
-contactsWhole len n = eqb (len % 20) 0 && leb (n * 20) len
+contactsWhole len n = eqb (len % recordWidth) 0 && leb (n * recordWidth) len
 
 -- "a heard or contact time that is NaN, outside 0..1,000,000 or lower than the one before in its list, or more than 256 heard"
 unfoldable pub allTimesOk : List Float → List Float → ℕ → Bool

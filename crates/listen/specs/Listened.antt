@@ -11,7 +11,7 @@ use lib.Dec.{T}
 use lib.ListN.{length, take, drop, getD, length-append, length-drop, List·getD-append}
 use lib.Seq.{take-at, drop-at, getD-append-add}
 use lib.Ieee.{Float, nan, lt}
-use Rattle.listen.specs.Listen.{contactTimes, near, walk, heardMarks, contactMarks, count, refusalOf, Listen, marked, listenOf}
+use Rattle.listen.specs.Listen.{recordWidth, contactTimes, near, walk, heardMarks, contactMarks, count, refusalOf, Listen, marked, listenOf}
 use Rattle.listen.specs.Accepted.{accepted}
 use Rattle.listen.specs.Walking.{firsts-length, walking, heard-length, contact-length, heard-total, contact-total, pairs-same}
 use Rattle.listen.specs.Turns.{places, Increasing, PairAt, HeardOnlyAt, ComputedOnlyAt}
@@ -157,7 +157,7 @@ module _ (heard contacts : List Float) (n : ℕ) (t : Float) (marks : List ℕ) 
   cs = contactTimes n contacts
 
   room : length heard + length cs ≤ length marks
-  room = omega (arith, accepted heard contacts n t (length marks) e .room-for, firsts-length 20 n contacts)
+  room = omega (arith, accepted heard contacts n t (length marks) e .room-for, firsts-length recordWidth n contacts)
 
   -- of two fronts further apart than the tolerance, where the heard time is not earlier the contact is
   late : (i j : ℕ) → i < length heard → j < length cs → near t (getD heard i nan) (getD cs j nan) ≡ false → lt (getD heard i nan) (getD cs j nan) ≡ false

@@ -3,9 +3,12 @@ ghost use mathlib.Core.Path.{_≡_};
 ghost use Prim.Native.Nat.{_+_, _-_, _*_, _≤_, _<_};
 ghost use lib.ListN.{length, replicate};
 ghost use lib.Seq.{sets};
-ghost use Rattle.listen.specs.Listen.{firsts, contactTimes, timeOk, timesOk, contactsWhole, allTimesOk, toleranceOk, refusalOf};
+ghost use Rattle.listen.specs.Listen.{recordWidth, firsts, contactTimes, timeOk, timesOk, contactsWhole, allTimesOk, toleranceOk, refusalOf};
 ghost use Rattle.listen.specs.Listen.{near as nearOf, listened, listenOf};
 ghost use Rattle.listen.specs.Inner.{frontOf, Walked};
+
+// The numbers of a contact in a contact list.
+const CONTACT_WIDTH: usize = 20;
 
 // What one turn of the walk marks.
 enum Mark {
@@ -51,15 +54,15 @@ fn times_ok(list: &[f64], width: usize, n: usize) -> bool
 fn contacts_whole(len: usize, n: usize) -> bool
     ensures { λ r. ⌜ r ≡ contactsWhole len n ⌝ }
 {
-    (len % 20 == 0) & (n <= len / 20)
+    (len % CONTACT_WIDTH == 0) & (n <= len / CONTACT_WIDTH)
 }
 
 fn all_times_ok(heard: &[f64], contacts: &[f64], n: usize) -> bool
-    requires { ⌜ n * 20 ≤ length (now contacts) ⌝ }
+    requires { ⌜ n * recordWidth ≤ length (now contacts) ⌝ }
     ensures { λ r. ⌜ r ≡ allTimesOk (now (heard .entry)) (now (contacts .entry)) n ⌝ }
 {
     let ok = times_ok(heard, 1, heard.len());
-    (heard.len() <= 256) & ok & times_ok(contacts, 20, n)
+    (heard.len() <= 256) & ok & times_ok(contacts, CONTACT_WIDTH, n)
 }
 
 fn tolerance_ok(t: f64) -> bool
@@ -122,7 +125,7 @@ fn fill(marks: &mut [u8], from: usize, to: usize, mark: u8)
 
 // Marks the heard times and n contacts. Returns how many pairs there are.
 fn walk(t: f64, heard: &[f64], contacts: &[f64], n: usize, marks: &mut [u8]) -> usize
-    requires { ⌜ (n * 20 ≤ length (now contacts)) × (length (now heard) + n ≤ length (now marks)) ⌝ }
+    requires { ⌜ (n * recordWidth ≤ length (now contacts)) × (length (now heard) + n ≤ length (now marks)) ⌝ }
     ensures { λ r. ⌜ Walked t (now (heard .entry)) (contactTimes n (now (contacts .entry))) (now (marks .entry)) r (now (marks .exit)) ⌝ }
 {
     let behind = heard.len();
@@ -130,7 +133,7 @@ fn walk(t: f64, heard: &[f64], contacts: &[f64], n: usize, marks: &mut [u8]) -> 
     let mut j = 0;
     let mut pairs = 0;
     while (i < behind) & (j < n) {
-        let m = front(t, heard[i], contacts[j * 20]);
+        let m = front(t, heard[i], contacts[j * CONTACT_WIDTH]);
         match m {
             Mark::Paired => {
                 marks[i] = 0;
