@@ -26,7 +26,8 @@ use Rattle.bench.specs.Given.{bytesOf, bits, surfaceFields, sheetS, atZe
 abbrev sheetT : List ℕ
 sheetT =
     bytesOf 4 (1 ∷ 16 ∷ 1 ∷ 80 ∷ [])
-    ++ bytesOf 8 (surfaceFields green ++ (bits (dec 10 1) ∷ bits (dec 20 1) ∷ bits (dec 10 1) ∷ bits (dec 20 1) ∷ bits (dec 1 1) ∷ bits (dec 1 2) ∷ bits (dec 0 1) ∷ 0 ∷ []))
+    ++ bytesOf 8 (surfaceFields green ++ (bits (dec 10 1) ∷ bits (dec 20 1) ∷ bits (dec 10 1) ∷ bits (dec 20 1)
+    ∷ bits (dec 1 1) ∷ bits (dec 1 2) ∷ bits (dec 0 1) ∷ 0 ∷ []))
 
 accepted-s : Accepted sheetS
 unfolding definitions

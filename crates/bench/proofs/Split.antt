@@ -76,7 +76,8 @@ beside (fin false (suc m) (negsuc k)) d = go (leb (suc m) (2 ^ suc k)) (leb→le
   where
     go : (b : Bool) → (T b → suc m ≤ 2 ^ suc k) → (T (not b) → 2 ^ suc k < suc m) → Beside (fin false (suc m) (negsuc k))
     go true f g = inl (→le false (suc m) (negsuc k) false 1 (pos 0) (let h = f tt in omega arith))
-    go false f g = inr (inl (→le false 4503599627370497 (negsuc 51) false (suc m) (negsuc k) (let h = g tt in let l = digits m (negsuc k) d in let s = small (suc k) (omega arith) in omega arith)))
+    go false f g = inr (inl (→le false 4503599627370497 (negsuc 51) false (suc m) (negsuc k)
+        (let h = g tt in let l = digits m (negsuc k) d in let s = small (suc k) (omega arith) in omega arith)))
 
 -- ---- the sheets
 
@@ -109,9 +110,17 @@ accepted-cut = refl
 joined : (x : Float) → T (isDouble x) → withinOf lo hi x ≡ withinOf lo one x || withinOf next hi x
 unfolding withinOf round neg
 joined x d = elim (beside x d) [
-  | inl c ↦ rw (is-true (le x one) c, is-true (le x hi) (le-through x one hi c (unfold le lt eq in tt)), is-false (le next x) (not-T (le next x) (λ n. meet n c))) (left (le lo x))
+  | inl c ↦ rw (
+    is-true (le x one) c,
+    is-true (le x hi) (le-through x one hi c (unfold le lt eq in tt)),
+    is-false (le next x) (not-T (le next x) (λ n. meet n c)),
+  ) (left (le lo x))
   | inr h ↦ elim h [
-    | inl n ↦ rw (is-true (le next x) n, is-true (le lo x) (le-through lo next x (unfold le lt eq in tt) n), is-false (le x one) (not-T (le x one) (λ c. meet n c)))
+    | inl n ↦ rw (
+      is-true (le next x) n,
+      is-true (le lo x) (le-through lo next x (unfold le lt eq in tt) n),
+      is-false (le x one) (not-T (le x one) (λ c. meet n c)),
+    )
     | inr e ↦ rw e (unfold le lt eq in refl)
   ]
 ]
@@ -153,7 +162,8 @@ alike : (x z : Float) → T (isDouble x) → courseOf cut x z ≡ courseOf whole
 unfolding courseOf first little
 alike x z d = go (withinOf lo one x) (withinOf next hi x) (withinOf lo hi z) (in-cut x z) (in-cut-2 x z) (rw (← joined x d) (in-whole x z))
   where
-    go : (p q w : Bool) → covers cut x z 1 ≡ p && w → covers cut x z 2 ≡ q && w → covers whole x z 1 ≡ (p || q) && w → courseOf cut x z ≡ courseOf whole x z
+    go : (p q w : Bool) → covers cut x z 1 ≡ p && w → covers cut x z 2 ≡ q && w
+        → covers whole x z 1 ≡ (p || q) && w → courseOf cut x z ≡ courseOf whole x z
     go true q true a b c = rw (a, c) (same-patch x z)
     go true true false a b c = rw (a, b, c) same-plain
     go true false false a b c = rw (a, b, c) same-plain

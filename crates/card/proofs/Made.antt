@@ -2,7 +2,7 @@
 use Prim.Native.Nat.{ℕ, _+_, _*_, _≤_, _<_}
 use native.Mathlib.Omega.{arith}
 use mathlib.Core.Path.{_≡_, ap, _∙_, sym, subst}
-use mathlib.Core.List.{List, [], _++_}
+use mathlib.Core.List.{List, _++_}
 use lib.Ieee.{Float}
 use lib.ListN.{length, drop}
 use borrow.Author.Tests.{eq-eqb, ne-eqb, le-leb, lt-leb}
@@ -15,16 +15,8 @@ use Rattle.card.specs.Card.{headingLine, linesOf, textOf, tooShort, card
 use Rattle.card.specs.Inner.{Printable}
 use Rattle.card.specs.Fits.{at-most-64, printable}
 
-module _ (input : List ℕ) (cs ps : List Float) (page : List ℕ) {s : Settled} {cs' ps' : List Float} (e : result s cs' ps' ≡ settleInputOf input cs ps) where
-  pub unfinished : (s .answer ≡ 0 → ⊥) → carded (result s cs' ps') page ≡ cardOf input cs ps page
-  unfolding cardOf
-  unfinished h = rw (← e, ne-eqb (s .answer) 0 h)
-
+module _ (input : List ℕ) (cs ps : List Float) {s : Settled} {cs' ps' : List Float} (e : result s cs' ps' ≡ settleInputOf input cs ps) where
   module _ (h : s .answer ≡ 0) where
-    finished : cardOf input cs ps page ≡ printedOf (result s cs' ps') page
-    unfolding cardOf
-    finished = rw (← e, eq-eqb (s .answer) 0 h)
-
     answers : settleInputOf input cs ps .settled .answer ≡ 0
     answers = subst (λ (w : Result). w .settled .answer ≡ 0) e h
 
@@ -33,6 +25,15 @@ module _ (input : List ℕ) (cs ps : List Float) (page : List ℕ) {s : Settled}
 
     pub spots : Printable cs' (s .contacts)
     spots = subst (λ (w : Result). Printable (w .contacts) (w .settled .contacts)) (sym e) (printable input cs ps answers)
+
+  pub unfinished : (page : List ℕ) → (s .answer ≡ 0 → ⊥) → carded (result s cs' ps') page ≡ cardOf input cs ps page
+  unfolding cardOf
+  unfinished page h = rw (← e, ne-eqb (s .answer) 0 h)
+
+  module _ (page : List ℕ) (h : s .answer ≡ 0) where
+    finished : cardOf input cs ps page ≡ printedOf (result s cs' ps') page
+    unfolding cardOf
+    finished = rw (← e, eq-eqb (s .answer) 0 h)
 
     pub short : {s' : Settled} → length page < 60 * (1 + s .contacts) → s' ≡ tooShort s → carded (result s' cs' ps') page ≡ cardOf input cs ps page
     unfolding printedOf

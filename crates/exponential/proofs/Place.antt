@@ -24,7 +24,8 @@ pattern-value q h k =
     let b = q + 4836865999795912704 in
     let d : 4503599627370496 + b % 4503599627370496 ≡ q = omega arith in
     let f : b / 4503599627370496 - 1 ≡ 1074 = omega arith in
-    let e : ofBits binary64 b ≡ odd 53 false q 1074 1074 = normal b (omega arith) (omega arith) ∙ ap (λ (x : ℕ). odd 53 false x (b / 4503599627370496 - 1) 1074) d ∙ ap (λ (x : ℕ). odd 53 false q x 1074) f in
+    let e : ofBits binary64 b ≡ odd 53 false q 1074 1074 = normal b (omega arith) (omega arith)
+    ∙ ap (λ (x : ℕ). odd 53 false x (b / 4503599627370496 - 1) 1074) d ∙ ap (λ (x : ℕ). odd 53 false q x 1074) f in
     by-one (ofBits binary64 b) false q (subst (λ (y : Float). HasValue y false (q * 2 ^ 1074) (2 ^ 1074)) (sym e) (odd-sign 53 false q 1074 1074))
 
 pub bits-of-sum : (u : Float) → T (fits binary64 u) → (s : Sum u) → toBits binary64 u ≡ s .q + 4836865999795912704
@@ -32,7 +33,8 @@ bits-of-sum u f s =
     let b = s .q + 4836865999795912704 in
     let l = s .least in
     let m = s .most in
-    let e : u ≡ ofBits binary64 b = whole-unique binary64 u (ofBits binary64 b) false (s .q) f (ofBits-fits binary64 b) (s .is) (pattern-value (s .q) (omega arith) (omega arith)) in
+    let e : u ≡ ofBits binary64 b = whole-unique binary64 u (ofBits binary64 b) false (s .q) f
+    (ofBits-fits binary64 b) (s .is) (pattern-value (s .q) (omega arith) (omega arith)) in
     ap (toBits binary64) e ∙ toBits-ofBits binary64 b (omega arith) (subst (λ (y : Float). T (not (isNan y))) e (no-nan u s))
 
 -- the index, by the sum's bits, is that of the power for that integer

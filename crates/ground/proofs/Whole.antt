@@ -1,13 +1,13 @@
 -- From the tests and the run to what the caller sees.
-use Prim.Native.Nat.{ℕ, _/_, _≤_, zero-le}
-use native.Mathlib.Omega.{arith}
-use mathlib.Core.Path.{_≡_, refl, ap, _∙_}
+use Prim.Native.Nat.{ℕ, _≤_, zero-le}
+use mathlib.Core.Path.{_≡_, refl, ap, _∙_, sym}
 use mathlib.Core.Bool.{Bool, true, false, not}
 use mathlib.Core.List.{List}
 use lib.Dec.{eqb}
 use lib.Ieee.{Float}
 use lib.ListN.{length}
-use borrow.Author.Tests.{eqb-true}
+use borrow.Author.Tests.{eqb-true, not-true, not-false}
+use Rattle.state.specs.State.{stateOk}
 use Rattle.state.specs.declared.BallState.{BallState}
 use Rattle.aero.specs.declared.BallModel.{BallModel}
 use Rattle.look.specs.Rect.{noRect}
@@ -35,12 +35,13 @@ use Rattle.rolling.specs.declared.Stepped.{Stepped}
 use Rattle.look.specs.Tree.{Oracle, lookTree}
 use Rattle.look.specs.declared.Look.{Look}
 use Rattle.look.specs.declared.Look.the-variants.{Saw}
-use Rattle.tally.specs.Language.{M, _>>=_, _>>_, pure, look, test}
-use Rattle.tally.specs.Words.{look-saw}
+use Rattle.tally.specs.Language.{M, stops, _>>=_, pure, tested, look, test}
+use Rattle.tally.specs.Words.{look-saw, test-ok, test-bad}
 use Rattle.roll.specs.Roll.{wholePhase}
 use Rattle.ground.specs.Step.{stepOut, stepBy, stepRun, stepMade, impactBy, impactRun, impactMade}
 use Rattle.ground.specs.Settle.{firstLog}
 use Rattle.ground.specs.declared.StepOut.{StepOut}
+use Rattle.impact.specs.Impact.{impactOf}
 
 -- a sheet that passed its tests
 past : (a m : ℕ) → (if not (eqb a 0) then a else m) ≡ 0 → a ≡ 0
@@ -68,12 +69,15 @@ unfolding conditionsOf
 limit-of s shot nc np h e = rw e (settle-limit s shot nc np h)
 
 -- an accepted settle
-pub settled-whole : (s : List ℕ) (shot : Shot) (cs ps : List Float) (r : RunOut) {c : Conditions} {mc mp : List Float}
-    → refusalOf s shot (length cs) (length ps) ≡ 0 → c ≡ conditionsOf shot
-    → TrainRuns (courseOf s) c (shot .landing) (zeroed cs 0) (zeroed ps 0) r mc mp → length mc ≡ length (zeroed cs 0) → length mp ≡ length (zeroed ps 0)
+pub settled-whole : (s : List ℕ) (shot : Shot) (cs ps : List Float) (r : RunOut) {c : Conditions} {zc zp mc mp : List Float}
+    → refusalOf s shot (length cs) (length ps) ≡ 0 → c ≡ conditionsOf shot → zc ≡ zeroed cs 0 → zp ≡ zeroed ps 0
+    → TrainRuns (courseOf s) c (shot .landing) zc zp r mc mp → length mc ≡ length zc → length mp ≡ length zp
     → result (settledBy r) mc mp ≡ settleOf s shot cs ps
 unfolding settleOf reportOf runOf recs
-settled-whole s shot cs ps r {mc = mc} {mp} h ec t lc lp =
+settled-whole s shot cs ps r {mc = mc} {mp} h ec ezc ezp run kc kp =
+    let t = rw (ezc, ezp) at run in
+    let lc = rw ezc at kc in
+    let lp = rw ezp at kp in
     let vc = seen contactWidth (afterRun r .contacts) cs mc (t .contacts) (clean-zeroed contactWidth 0 cs zero-le) lc in
     let vp = seen pointWidth (afterRun r .points) ps mp (t .points) (clean-zeroed pointWidth 0 ps zero-le) lp in
     let d = did (ran (endedBy r) (logAt (place (afterRun r) mc mp))) (afterRun r .rect) in
@@ -87,18 +91,37 @@ pub step-by : (s : List ℕ) (dt stop roll : Float) (ball : BallModel) (state : 
 unfolding stepMade
 step-by s dt stop roll ball state x e = ap (λ (d : Did (Ran StepOut)). stepBy state (d .value .outcome)) e
 
--- a step after its first look
-abbrev pub stepRest : BallModel → GroundSample → Stepped → M StepOut
-stepRest ball at m = do
-  under ← look m.state.pos.x m.state.pos.z
-  b ← test (ontoOf m.state under at.normal m.rolling (radiusOf ball))
-  pure (stepOut 0 b (wholePhase m.phase))
+-- what is left of a step after its first look, and after its second
+module _ (ball : BallModel) (at : GroundSample) (m : Stepped) where
+  abbrev pub toTest : GroundSample → M StepOut
+  toTest under = test (ontoOf (m .state) under (at .normal) (m .rolling) (radiusOf ball)) >>= λ b. pure (stepOut 0 b (wholePhase (m .phase)))
 
-pub step-hit : (o : Oracle) (dt stop roll : Float) (ball : BallModel) (state : BallState) (l : Log) (q : Rect) {w : Look} {q1 : Rect} {at : GroundSample} {m : Stepped} {d : Did (Ran StepOut)}
-    → did w q1 ≡ exec o q (lookTree (state .pos .x) (state .pos .z)) → w ≡ Saw at → m ≡ contactStepOf state at ball dt stop roll
-    → d ≡ exec o q1 (stepRest ball at m l) → d ≡ exec o q (stepRun dt stop roll ball state l)
-unfolding stepRun
-step-hit o dt stop roll ball state l q e h em p = look-saw o q l _ _ _ e h (rw (← em) p)
+  abbrev pub toLook : M StepOut
+  toLook = look (m .state .pos .x) (m .state .pos .z) >>= toTest
+
+-- what is left of an impact after its look
+abbrev pub toImpact : BallState → M BallState
+toImpact out = test out >>= λ b. pure b
+
+-- test 22, where the code branches on its negation
+module _ {B : Type 0} (o : Oracle) (q : Rect) (l : Log) (k : BallState → M B) {b b' : BallState} {h : Bool} (e : b ≡ b') (i : h ≡ stateOk b) where
+  pub failed : not h ≡ true → did (ran (stops 22) l) q ≡ exec o q ((test b' >>= k) l)
+  failed v = test-bad o q l k e (sym i ∙ not-true h v)
+
+  pub passed : not h ≡ false → {d : Did (Ran B)} → d ≡ exec o q (k b (tested b l)) → d ≡ exec o q ((test b' >>= k) l)
+  passed v p = test-ok o q l k e (sym i ∙ not-false h v) p
+
+-- the first look, from no rectangle
+module _ (o : Oracle) (ball : BallModel) (state : BallState) (l : Log) {n q : Rect} {w : Look} {at : GroundSample} (i : n ≡ noRect)
+    (e : did w q ≡ exec o n (lookTree (state .pos .x) (state .pos .z))) (h : w ≡ Saw at) where
+  pub step-hit : (dt stop roll : Float) {m : Stepped} → m ≡ contactStepOf state at ball dt stop roll
+      → exec o q (toLook ball at m l) ≡ exec o noRect (stepRun dt stop roll ball state l)
+  unfolding stepRun
+  step-hit dt stop roll em = look-saw o noRect l _ _ _ (rw i at e) h (rw em)
+
+  pub impact-hit : {b : BallState} → b ≡ impactOf state at ball → exec o q (toImpact b l) ≡ exec o noRect (impactRun ball state l)
+  unfolding impactRun
+  impact-hit eb = look-saw o noRect l _ _ _ (rw i at e) h (rw eb)
 
 pub impact-by : (s : List ℕ) (ball : BallModel) (state : BallState) (x : Outcome BallState) {l : Log} {q : Rect}
     → did (ran x l) q ≡ exec (courseOf s) noRect (impactRun ball state (firstLog state 0 0)) → impactBy state x ≡ impactMade s ball state

@@ -33,7 +33,8 @@ module _ (c : Conditions) (f : Flight) (arc : Arc) where
 
 -- the step is made and counted
 pub stepped : {o : Oracle} {t t' : Tally} {lc lp : List Float} (c : Conditions) (aero : AeroParams) (f : Flight) {arc : Arc}
-    → arc ≡ stepArc c (aeroFor c.fading aero) f.state → MakesStep t 0 t' → Reached o (hopStep c (airWith c aero) f) (place t lc lp) 1 (toTest c f arc) (place t' lc lp)
+    → arc ≡ stepArc c (aeroFor c.fading aero) f.state → MakesStep t 0 t'
+    → Reached o (hopStep c (airWith c aero) f) (place t lc lp) 1 (toTest c f arc) (place t' lc lp)
 unfolding hopStep
 stepped c aero f e r = rw (← e) (step-made _ _ begun r)
 

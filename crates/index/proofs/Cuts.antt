@@ -5,7 +5,6 @@ use mathlib.Core.Path.{_≡_, refl, sym, ap, _∙_, subst}
 use mathlib.Core.Bool.{Bool, cond}
 use mathlib.Core.List.{List}
 use lib.ListN.{length, getD, set}
-use lib.Seq.{getD-set-other}
 use lib.Ieee.{Float, le, neg, binary64, ofBits}
 use borrow.Author.Tests.{le-leb, lt-leb}
 use Rattle.number.specs.Ops.{_⊕_, _⊖_, _⊘_, dec}
@@ -58,10 +57,6 @@ cuts-few s ix h j = rw (le-leb (patches s) few h)
 pub cuts-many : (s ix iy iz iw : List ℕ) → few < patches s → iy ≡ spreadOf s 0 ix → iz ≡ spreadOf s 1 iy → SameCuts iw iz → SameCuts iw (cutsIn s ix)
 unfolding cutsIn
 cuts-many s ix iy iz iw h e f r j = rw (lt-leb (patches s) few h, ← e, ← f) (r j)
-
--- a word of marks is no cut
-pub kept-cuts : (ix iy : List ℕ) (k w : ℕ) → k < 256 → SameCuts ix iy → SameCuts (set ix k w) iy
-kept-cuts ix iy k w h r j = getD-set-other ix k (256 + j) w 0 (omega arith) ∙ r j
 
 module _ (ix iy : List ℕ) (r : SameCuts ix iy) where
   cut-same : (j : ℕ) → cut ix j ≡ cut iy j

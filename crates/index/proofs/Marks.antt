@@ -1,22 +1,24 @@
 -- Words of marks.
 use Prim.Native.Nat.{ℕ, zero, suc, _+_, _-_, _*_, _/_, _%_, _^_, _≤_, _<_, min}
-use native.Mathlib.Nat.{add-zero, sub-zero, le-refl, not-suc-le-zero, le-of-suc-le-suc, pow-succ', div-div-eq-div-mul, div-one, suc-add, zero-add, sub-self, lt-of-lt-of-le, le-of-lt, eq-or-lt-of-le}
+use native.Mathlib.Nat.{add-zero, sub-zero, le-refl, not-suc-le-zero, le-of-suc-le-suc, pow-succ', div-div-eq-div-mul, div-one, suc-add, zero-add, sub-self}
+use native.Mathlib.Nat.{lt-of-lt-of-le, le-of-lt, eq-or-lt-of-le}
 use native.Mathlib.Numerals.{add-one}
 use native.Mathlib.Omega.{arith}
 use mathlib.Core.Path.{_≡_, refl, sym, ap, _∙_, subst, subst⁻¹}
 use mathlib.Core.Logic.{inl, inr}
 use mathlib.Core.List.{List}
-use lib.ListN.{length, getD, set}
+use lib.ListN.{length, getD, set, length-set}
 use lib.Seq.{getD-set-same, getD-set-other}
 use lib.Ieee.{Float}
-use mathlib.Core.Bool.{Bool, true, false, cond}
+use mathlib.Core.Bool.{Bool, true, false, not, cond}
 use lib.Bits.{bitAnd, and-step}
 use lib.Pow.{pow-mono}
 use lib.Dec.{lit<}
+use borrow.Author.Tests.{not-false}
 use lib.Count.{trailingZeros, under}
 use Rattle.number.specs.Number.{withinOf}
 use Rattle.sheet.specs.Sheet.{first, covers, surfaces, patches}
-use Rattle.index.specs.Index.{Marks, reaches, cut, strip, low, Entry, Indexed, Row}
+use Rattle.index.specs.Index.{Marks, reaches, cut, strip, low, Entry, Indexed, Row, indexWords, SameCuts}
 use Rattle.index.proofs.Reach.{reach-x, reach-z}
 
 -- p holds of fewer
@@ -38,7 +40,8 @@ marks-and p a b (suc n) i r t =
     let l : min (a % 2) (b % 2) < 2 = omega arith in
     rw (and-step a b) (
       (λ e. odd (bitAnd (a / 2) (b / 2)) (min (a % 2) (b % 2)) l ∙ least (r .0 e) (t .0 e)),
-      subst (λ (x : ℕ). Marks p x n (i + 1)) (sym (half (bitAnd (a / 2) (b / 2)) (min (a % 2) (b % 2)) l)) (marks-and p (a / 2) (b / 2) n (i + 1) (r .1) (t .1)),
+      subst (λ (x : ℕ). Marks p x n (i + 1)) (sym (half (bitAnd (a / 2) (b / 2)) (min (a % 2) (b % 2)) l))
+          (marks-and p (a / 2) (b / 2) n (i + 1) (r .1) (t .1)),
     )
   where
     least : a % 2 ≡ 1 → b % 2 ≡ 1 → min (a % 2) (b % 2) ≡ 1
@@ -139,43 +142,55 @@ one-more p m b e j l h k g u r =
 pub room : (m n : ℕ) → m < 2 ^ n → n < 64 → m < 2 ^ 63
 room m n l h = lt-of-lt-of-le l (pow-mono {j = 63} (omega arith))
 
--- ---- the loop that goes through the marks
-module _ (p : ℕ → Bool) (f m e j : ℕ) (r : Marks p m (e - j) j) where
-  pub far : j ≤ e → e - j ≤ trailingZeros f m → e ≡ first p (e - j) j
+pub marks-at : (p : ℕ → Bool) (m e j i : ℕ) → j ≡ i → Marks p m (e - j) j → Marks p m (e - i) i
+marks-at p m e j i q r = subst (λ (x : ℕ). Marks p m (e - x) x) q r
+
+-- ---- the loop that goes through the marks: those of m are left, of the records from j to before e, and the first from j on is the first from i on
+pub record Left (p : ℕ → Bool) (m e j i : ℕ) : Type 0 where
+  pub marks : Marks p m (e - j) j
+  pub same : first p (e - j) j ≡ first p (e - i) i
+
+module _ {p : ℕ → Bool} {m e j i : ℕ} (r : Left p m e j i) where
+  abbrev zeros : ℕ
+  zeros = trailingZeros 64 m
+
+  pub far : j ≤ e → e - j ≤ zeros → e ≡ first p (e - i) i
   unfolding first
-  far h l = let s = skip p f m (e - j) j (e - j) r l (le-refl (e - j)) in end ∙ sym (rw sub-self at (s .same))
+  far h l = let s = skip p 64 m (e - j) j (e - j) (r .marks) l (le-refl (e - j)) in end ∙ sym (rw sub-self at (s .same)) ∙ r .same
     where
       end : e ≡ j + (e - j)
       end = omega arith
 
-  pub empty : j ≤ e → m ≡ 0 → e ≡ first p (e - j) j
-  empty h z = end ∙ sym (none-left p (e - j) j (subst (λ (x : ℕ). Marks p x (e - j) j) z r))
+  pub empty : j ≤ e → m ≡ 0 → e ≡ first p (e - i) i
+  empty h z = end ∙ sym (none-left p (e - j) j (subst (λ (x : ℕ). Marks p x (e - j) j) z (r .marks))) ∙ r .same
     where
       end : e ≡ j + (e - j)
       end = omega arith
 
-  module _ (t : ℕ) (d : t ≤ trailingZeros f m) (l : t < e - j) where
-    passed : Skipped p m (e - j) j t
-    passed = skip p f m (e - j) j t r d (le-of-lt l)
+  module _ (l : zeros < e - j) {b : Bool} (h : b ≡ p (j + zeros)) where
+    passed : Skipped p m (e - j) j zeros
+    passed = skip p 64 m (e - j) j zeros (r .marks) (le-refl zeros) (le-of-lt l)
 
-    some : e - j - t ≡ suc (e - (j + t + 1))
-    some = let q : e - j - t ≡ e - (j + t + 1) + 1 = omega arith in q ∙ add-one _
+    some : e - j - zeros ≡ suc (e - (j + zeros + 1))
+    some = let q : e - j - zeros ≡ e - (j + zeros + 1) + 1 = omega arith in q ∙ add-one _
 
-    pub hit : p (j + t) ≡ true → j + t ≡ first p (e - j) j
+    pub hit : b ≡ true → j + zeros ≡ first p (e - i) i
     unfolding first
-    hit h = rw (passed .same, some, h)
+    hit t = rw (← r .same, passed .same, some, ← h, t)
 
-    pub after : p (j + t) ≡ false → Marks p (m / 2 ^ t / 2) (e - (j + t + 1)) (j + t + 1) × (first p (e - (j + t + 1)) (j + t + 1) ≡ first p (e - j) j)
+    pub after : b ≡ false → Left p (m / 2 ^ zeros / 2) e (j + zeros + 1) i
     unfolding first Marks
-    after h = ((rw some at (passed .rest)) .1, rw (passed .same, some, h))
+    after t = record { marks = (rw some at (passed .rest)) .1; same = rw (← r .same, passed .same, some, ← h, t) }
 
 -- ---- the index
-pub placed : (s : List ℕ) (p : ℕ → Bool) (m from end count n w : ℕ) → from ≡ count + min (64 * w) n → end ≡ count + min (64 * (w + 1)) n
-    → count ≡ surfaces s → n ≡ patches s → Marks p m (end - from) from → Marks p m (low s (w + 1) - low s w) (low s w)
-placed s p m from end count n w f e c d r =
-    let f' : from ≡ low s w = f ∙ cc in
-    let e' : end ≡ low s (w + 1) = e ∙ cc in
-    subst (λ (x : ℕ). Marks p m (low s (w + 1) - x) x) f' (subst (λ (x : ℕ). Marks p m (x - from) from) e' r)
+pub entered : (s l : List ℕ) (k v count n : ℕ) {from end : ℕ} {lo hi : Float} → from ≡ count + min (64 * (k % 8)) n → end ≡ count + min (64 * (k % 8 + 1)) n
+    → count ≡ surfaces s → n ≡ patches s → lo ≡ cut l (strip k) → hi ≡ cut l (strip k + 1) → Marks (reaches s (k / 128) lo hi) v (end - from) from
+    → Entry s l k v
+unfolding Entry
+entered s l k v count n f e c d x y m =
+    let f' : _ ≡ low s (k % 8) = f ∙ cc in
+    let e' : _ ≡ low s (k % 8 + 1) = e ∙ cc in
+    rw (← x, ← y, ← f', ← e') m
 
 -- the records of word w that both a row and a column mark
 module _ (s : List ℕ) (p : ℕ → Bool) (ix : List ℕ) (a b w from end count n : ℕ) (f : from ≡ count + min (64 * w) n) (e : end ≡ count + min (64 * (w + 1)) n)
@@ -191,26 +206,38 @@ module _ (s : List ℕ) (p : ℕ → Bool) (ix : List ℕ) (a b w from end count
   pub both-marked : Row s p ix a → Row s p ix b → Marks p (bitAnd (getD ix (a + w) 0) (getD ix (b + w) 0)) (end - from) from
   both-marked g h = marks-and p (getD ix (a + w) 0) (getD ix (b + w) 0) (end - from) from (taken a g) (taken b h)
 
--- one more word of marks, at k: the words before it and the cuts stay
-module _ (s l : List ℕ) (k v : ℕ) (b : k < length l) (few : k < 256) where
+-- the words before k have their marks, by the cuts that were there
+pub record Filled (s start l : List ℕ) (k : ℕ) : Type 0 where
+  pub long : length l ≡ indexWords
+  pub words : (i : ℕ) → i < k → Entry s l i (getD l i 0)
+  pub cuts : SameCuts l start
+
+-- one more word: the words before it and the cuts stay
+module _ {s start l : List ℕ} {k : ℕ} (r : Filled s start l k) (few : k < 256) (v : ℕ) where
+  same-cut : (j : ℕ) → getD (set l k v) (256 + j) 0 ≡ getD l (256 + j) 0
+  same-cut j = getD-set-other l k (256 + j) v 0 (omega arith)
+
   kept : (i m : ℕ) → Entry s l i m → Entry s (set l k v) i m
   unfolding Entry
-  kept i m e = rw (getD-set-other l k (256 + strip i) v 0 (λ q. other (strip i) q), getD-set-other l k (256 + (strip i + 1)) v 0 (λ q. other (strip i + 1) q)) e
-    where
-      other : (j : ℕ) → 256 + j ≡ k → ⊥
-      other j q = omega arith
+  kept i m e = rw (same-cut (strip i), same-cut (strip i + 1)) e
 
-  pub filled : ((i : ℕ) → i < k → Entry s l i (getD l i 0)) → Entry s l k v → (i : ℕ) → i < k + 1 → Entry s (set l k v) i (getD (set l k v) i 0)
-  filled h e i l1 = kept i (getD (set l k v) i 0) (elim (eq-or-lt-of-le (i-le l1)) [
-    | inl q ↦ subst⁻¹ (λ (j : ℕ). Entry s l j (getD (set l k v) j 0)) q (subst⁻¹ (Entry s l k) (getD-set-same l k v 0 b) e)
-    | inr q ↦ subst⁻¹ (Entry s l i) (getD-set-other l k i v 0 (λ r. apart q r)) (h i q)
-  ])
+  pub filled : Entry s l k v → Filled s start (set l k v) (k + 1)
+  filled e = record { long = simp length-set (r .long); words = word; cuts = λ j. same-cut j ∙ r .cuts j }
     where
-      i-le : i < k + 1 → i ≤ k
-      i-le g = omega arith
+      b : k < length l
+      b = omega (arith, r .long)
 
-      apart : i < k → i ≡ k → ⊥
-      apart g r = omega arith
+      word : (i : ℕ) → i < k + 1 → Entry s (set l k v) i (getD (set l k v) i 0)
+      word i h = kept i (getD (set l k v) i 0) (elim (eq-or-lt-of-le (i-le h)) [
+        | inl q ↦ subst⁻¹ (λ (j : ℕ). Entry s l j (getD (set l k v) j 0)) q (subst⁻¹ (Entry s l k) (getD-set-same l k v 0 b) e)
+        | inr q ↦ subst⁻¹ (Entry s l i) (getD-set-other l k i v 0 (λ r. apart q r)) (r .words i q)
+      ])
+        where
+          i-le : i < k + 1 → i ≤ k
+          i-le g = omega arith
+
+          apart : i < k → i ≡ k → ⊥
+          apart g r = omega arith
 
 -- the words of column or row c, where a spot is that p holds of
 row : (s ix : List ℕ) (p : ℕ → Bool) (d c b k : ℕ) → d < 2 → c < 16 → b ≡ 17 * d + c → k ≡ 128 * d + 8 * c → Indexed s ix
@@ -219,8 +246,10 @@ unfolding Indexed Entry Row
 row s ix p d c b k ld lc eb ek t h w lw =
     marks-mono p (reaches s d (cut ix b) (cut ix (b + 1))) h (getD ix (k + w) 0) (low s (w + 1) - low s w) (low s w)
     (subst (λ (v : ℕ). Marks (reaches s d (cut ix b) (cut ix (b + 1))) (getD ix (k + w) 0) (low s (v + 1) - low s v) (low s v)) at-w
-    (subst (λ (j : ℕ). Marks (reaches s d (cut ix j) (cut ix (j + 1))) (getD ix (k + w) 0) (low s ((k + w) % 8 + 1) - low s ((k + w) % 8)) (low s ((k + w) % 8))) at-b
-    (subst (λ (j : ℕ). Marks (reaches s j (cut ix (strip (k + w))) (cut ix (strip (k + w) + 1))) (getD ix (k + w) 0) (low s ((k + w) % 8 + 1) - low s ((k + w) % 8)) (low s ((k + w) % 8))) at-d
+    (subst (λ (j : ℕ). Marks (reaches s d (cut ix j) (cut ix (j + 1))) (getD ix (k + w) 0) (low s ((k + w) % 8 + 1) - low s ((k + w) % 8))
+    (low s ((k + w) % 8))) at-b
+    (subst (λ (j : ℕ). Marks (reaches s j (cut ix (strip (k + w))) (cut ix (strip (k + w) + 1))) (getD ix (k + w) 0)
+    (low s ((k + w) % 8 + 1) - low s ((k + w) % 8)) (low s ((k + w) % 8))) at-d
     (t (k + w) (omega arith)))))
   where
     at-d : (k + w) / 128 ≡ d
@@ -232,36 +261,43 @@ row s ix p d c b k ld lc eb ek t h w lw =
     at-w : (k + w) % 8 ≡ w
     at-w = omega arith
 
-module _ (s ix : List ℕ) (x z : Float) (t : Indexed s ix) where
-  pub column : (c : ℕ) → c < 16 → withinOf (cut ix c) (cut ix (c + 1)) x ≡ true → Row s (covers s x z) ix (8 * c)
-  column c l w = row s ix (covers s x z) 0 c c (8 * c) (lit< tt) l (omega arith) (omega arith) t (λ i e. reach-x s x z i e (cut ix c) (cut ix (c + 1)) w)
+module _ (s ix : List ℕ) (x z : Float) (t : Indexed s ix) (c : ℕ) (l : c < 16) {lo hi : Float} {w : Bool} where
+  pub in-column : lo ≡ cut ix c → hi ≡ cut ix (c + 1) → w ≡ withinOf lo hi x → not w ≡ false → Row s (covers s x z) ix (8 * c)
+  in-column e f v g =
+      row s ix (covers s x z) 0 c c (8 * c) (lit< tt) l (omega arith) (omega arith) t
+      (λ i h. reach-x s x z i h (cut ix c) (cut ix (c + 1)) (rw (← e, ← f, ← v) (not-false w g)))
 
-  pub band : (c : ℕ) → c < 16 → withinOf (cut ix (17 + c)) (cut ix (17 + c + 1)) z ≡ true → Row s (covers s x z) ix (128 + 8 * c)
-  band c l w = row s ix (covers s x z) 1 c (17 + c) (128 + 8 * c) (lit< tt) l (omega arith) (omega arith) t (λ i e. reach-z s x z i e (cut ix (17 + c)) (cut ix (17 + c + 1)) w)
+  pub in-row : lo ≡ cut ix (17 + c) → hi ≡ cut ix (17 + c + 1) → w ≡ withinOf lo hi z → not w ≡ false → Row s (covers s x z) ix (128 + 8 * c)
+  in-row e f v g =
+      row s ix (covers s x z) 1 c (17 + c) (128 + 8 * c) (lit< tt) l (omega arith) (omega arith) t
+      (λ i h. reach-z s x z i h (cut ix (17 + c)) (cut ix (17 + c + 1)) (rw (← e, ← f, ← v) (not-false w g)))
 
--- a scan from one word to the next
-module _ (p : ℕ → Bool) (e from to : ℕ) (u : from ≤ to) (v : to ≤ e) where
-  parts : e - from ≡ to - from + (e - to)
-  parts = omega arith
+-- a scan from one word to the next: what is left of it from word w on
+module _ (p : ℕ → Bool) (count n : ℕ) where
+  abbrev start : ℕ → ℕ
+  start w = count + min (64 * w) n
 
-  pub in-word : first p (to - from) from < to → first p (to - from) from ≡ first p (e - from) from
-  in-word l = rw parts (sym (first-head p (to - from) (e - to) from (omega arith)))
+  abbrev pub Scan : ℕ → Type 0
+  Scan w = first p (count + n - start w) (start w) ≡ first p n count
 
-  pub past-word : to ≤ first p (to - from) from → first p (e - to) to ≡ first p (e - from) from
-  past-word l = rw parts (sym (first-tail p (to - from) (e - to) from (omega arith) ∙ ap (first p (e - to)) there))
-    where
-      there : from + (to - from) ≡ to
-      there = omega arith
+  pub scan-start : Scan 0
+  scan-start = let s : start 0 ≡ count = omega arith in let a : count + n - count ≡ n = omega arith in rw (s, a)
 
-pub at-end : (p : ℕ → Bool) (e i : ℕ) → e ≡ i → e ≡ first p (e - i) i
-unfolding first
-at-end p e i q = rw (← q, sub-self)
+  pub scan-end : (w : ℕ) → n ≤ 64 * w → Scan w → count + n ≡ first p n count
+  unfolding first
+  scan-end w l h = let s : start w ≡ count + n = omega arith in rw (s, sub-self) at h
 
-pub zeroth : (p : ℕ → Bool) (count n : ℕ) → first p (count + n - (count + min (64 * 0) n)) (count + min (64 * 0) n) ≡ first p n count
-zeroth p count n = rw (start, all-of)
-  where
-    start : count + min (64 * 0) n ≡ count
-    start = omega arith
+  module _ (w : ℕ) {from to i : ℕ} (f : from ≡ start w) (t : to ≡ start (w + 1)) (e : i ≡ first p (to - from) from) (h : Scan w) where
+    parts : count + n - from ≡ to - from + (count + n - to)
+    parts = omega arith
 
-    all-of : count + n - count ≡ n
-    all-of = omega arith
+    left : first p (to - from + (count + n - to)) from ≡ first p n count
+    left = rw (← parts, f) h
+
+    pub in-word : i < to → i ≡ first p n count
+    in-word l = e ∙ sym (first-head p (to - from) (count + n - to) from (rw (← e) (omega arith))) ∙ left
+
+    pub past-word : to ≤ i → Scan (w + 1)
+    past-word l =
+        let q : from + (to - from) ≡ to = omega arith in
+        rw (← t) (sym (first-tail p (to - from) (count + n - to) from (rw (← e) (omega arith)) ∙ ap (first p (count + n - to)) q) ∙ left)

@@ -56,7 +56,8 @@ less-itself : (s : Bool) (a c : ℕ) → 0 < c → eq (sum binary64 s a (not s) 
 unfolding sum eq ofBits
 less-itself s a c h = go s (ltb a a) (le-ltb a a (omega arith)) (a - a) (omega arith)
   where
-    go : (s b : Bool) → b ≡ false → (d : ℕ) → d ≡ 0 → eq (cond (Bool·beq s (not s)) (round binary64 s (a + a) c) (cond b (round binary64 (not s) d c) (round binary64 (s && b) d c))) (fin false 0 (pos 0)) ≡ true
+    go : (s b : Bool) → b ≡ false → (d : ℕ) → d ≡ 0 → eq (cond (Bool·beq s (not s)) (round binary64 s (a + a) c)
+        (cond b (round binary64 (not s) d c) (round binary64 (s && b) d c))) (fin false 0 (pos 0)) ≡ true
     go true b p d q = rw (p, q, round-same binary64 false 0 c 0 1 h (omega arith) (omega arith)) (unfold round in refl)
     go false b p d q = rw (p, q, round-same binary64 false 0 c 0 1 h (omega arith) (omega arith)) (unfold round in refl)
 
@@ -89,7 +90,8 @@ plus-sign (inf false) n h = refl
 plus-sign (fin true m e) n h = absurd (let l : toBits binary64 (fin true m e) < 9223372036854775808 = h in omega (arith, negated-bits m e))
 plus-sign (fin false m e) n h = refl
 
-pub minus-sign : (x : Float) → T (fits binary64 x) → T (not (isNan x)) → 9223372036854775808 ≤ toBits binary64 x → neg (ofBits binary64 0x3ff0_0000_0000_0000) ≡ signumOf x
+pub minus-sign : (x : Float) → T (fits binary64 x) → T (not (isNan x)) → 9223372036854775808 ≤ toBits binary64 x
+    → neg (ofBits binary64 0x3ff0_0000_0000_0000) ≡ signumOf x
 unfolding ofBits neg signumOf isNan toBits
 minus-sign nan f n h = absurd n
 minus-sign (inf true) f n h = refl
@@ -102,7 +104,8 @@ unfolding signumOf
 nan-sign x h = subst (λ (y : Float). y ≡ signumOf y) (sym (is-nan x h)) refl
 
 -- ---- the magnitude
-zero-less : (a b c : ℕ) → a ≡ 0 → b ≡ 0 → cond (ltb b a) (round binary64 true (a - b) c) (round binary64 false (b - a) c) ≡ round binary64 false 0 c
+zero-less : (a b c : ℕ) → a ≡ 0 → b ≡ 0 → cond (ltb b a) (round binary64 true (a - b) c) (round binary64 false (b - a) c)
+    ≡ round binary64 false 0 c
 zero-less a b c p q = rw (p, q)
 
 abs-zero : (m : ℕ) (e : ℤ) → T (fits binary64 (fin false m e)) → m * up e ≡ 0 → sub binary64 (fin false 0 (pos 0)) (fin false m e) ≡ fin false m e
@@ -118,7 +121,8 @@ unfolding ofBits neg absOf
 abs-low nan f h = absurd (false≢true (unfold le in h))
 abs-low (inf true) f h = unfold sub in refl
 abs-low (inf false) f h = absurd (false≢true (unfold le in h))
-abs-low (fin true m e) f h = unfold sub in rw (zero-mul (down e), zero-add, mul-one, one-mul) (round-self binary64 false m e (neg-fits binary64 (fin true m e) f))
+abs-low (fin true m e) f h = unfold sub in rw (zero-mul (down e), zero-add, mul-one, one-mul)
+    (round-self binary64 false m e (neg-fits binary64 (fin true m e) f))
 abs-low (fin false m e) f h = abs-zero m e f (none (m * up e) (down e) (le→ false m e false 0 (pos 0) (subst T (sym h) tt)))
   where
     none : (a d : ℕ) → a * 1 + 0 ≤ 0 * 1 * d + 0 → a ≡ 0

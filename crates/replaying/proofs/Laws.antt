@@ -63,11 +63,13 @@ abbrev pub Agrees : List ℕ → ℕ → List Float → Bool
 Agrees e i vs = noNan vs && holds e i (map bitsOf vs)
 
 pub agrees-next : (e : List ℕ) (i : ℕ) (vs : List Float) (k : ℕ) → k < length vs
-    → Agrees e (i + k) (drop k vs) ≡ (not (isNan (getD vs k nan)) && eqb (bitsOf (getD vs k nan)) (wholeAt e (i + k))) && Agrees e (i + (k + 1)) (drop (k + 1) vs)
+    → Agrees e (i + k) (drop k vs) ≡ (not (isNan (getD vs k nan)) && eqb (bitsOf (getD vs k nan)) (wholeAt e (i + k))) && Agrees e (i + (k + 1))
+    (drop (k + 1) vs)
 unfolding holds noNan
 agrees-next e i vs k h =
     rw (drop-cons vs k nan h, add-assoc i k 1, add-one k)
-    (exchange (not (isNan (getD vs k nan))) (noNan (drop (suc k) vs)) (eqb (bitsOf (getD vs k nan)) (wholeAt e (i + k))) (holds e (i + suc k) (map bitsOf (drop (suc k) vs))))
+    (exchange (not (isNan (getD vs k nan))) (noNan (drop (suc k) vs)) (eqb (bitsOf (getD vs k nan)) (wholeAt e (i + k)))
+    (holds e (i + suc k) (map bitsOf (drop (suc k) vs))))
 
 -- ---- sums
 

@@ -1,4 +1,5 @@
--- The test that corrects an estimate r of the root of m * 2 ^ 52, for r = a * 2 ^ 27 + b: the difference m * 2 ^ 52 - r * r is g - s, and by it r, r + 1 or r - 1 is the nearest. Assumes nothing.
+-- The test that corrects an estimate r of the root of m * 2 ^ 52, for r = a * 2 ^ 27 + b: the difference m * 2 ^ 52 - r * r is g - s, and by it r, r + 1 or r
+-- - 1 is the nearest. Assumes nothing.
 use mathlib.Core.Path.{_≡_, ap, _∙_}
 use mathlib.Core.Logic.{_⊎_, inl, inr}
 use Prim.Native.Nat.{ℕ, _+_, _-_, _*_, _/_, _%_, _≤_, _<_}
@@ -32,7 +33,8 @@ exact m r a b e f p q h =
 
 -- r, one more or one less
 pub choose : (m r g s t u : ℕ) → g + r * r ≡ m * 4503599627370496 + s → s + 2 < g + r * 3 → g ≤ s + r * 3 + 2
-    → ((s + r < g) × (u ≡ r + 1)) ⊎ ((g ≤ s + r) × (u ≡ r)) → ((g + r ≤ s) × (t ≡ r - 1)) ⊎ ((s < g + r) × (t ≡ u)) → 4503599627370496 ≤ t → t < 9007199254740992 → Near m t
+    → ((s + r < g) × (u ≡ r + 1)) ⊎ ((g ≤ s + r) × (u ≡ r)) → ((g + r ≤ s) × (t ≡ r - 1)) ⊎ ((s < g + r) × (t ≡ u)) → 4503599627370496 ≤ t
+    → t < 9007199254740992 → Near m t
 choose m r g s t u e lo hi (inl (p, q)) (inl (h, k)) l n = absurd (omega arith)
 choose m r g s t u e lo hi (inr (p, q)) (inl (h, k)) l n =
     let v : r ≡ t + 1 = omega arith in

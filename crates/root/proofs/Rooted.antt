@@ -1,7 +1,8 @@
 -- `rootOf` from a whole number that is nearest to a root. Assumes nothing.
 use mathlib.Core.Path.{_≡_, refl, sym, ap, _∙_, subst}
 use Prim.Native.Nat.{ℕ, suc, _+_, _-_, _*_, _/_, _%_, _^_, _≤_, _<_}
-use native.Mathlib.Nat.{mul-assoc, mul-le-mul, mul-le-mul-left, mul-le-mul-right, lt-of-not-le, le-antisymm, le-of-suc-le-suc, lt-of-lt-of-le, mul-div-cancel, not-le-of-lt, mul-lt-mul-of-pos-right, mul-pos}
+use native.Mathlib.Nat.{mul-assoc, mul-le-mul, mul-le-mul-left, mul-le-mul-right, lt-of-not-le, le-antisymm, le-of-suc-le-suc, lt-of-lt-of-le, mul-div-cancel}
+use native.Mathlib.Nat.{not-le-of-lt, mul-lt-mul-of-pos-right, mul-pos}
 use native.Mathlib.Omega.{arith}
 use mathlib.Core.Bool.{Bool, true, false, cond, not}
 use lib.Dec.{T, leb, leb→le, nleb→lt}
@@ -15,7 +16,8 @@ use Rattle.root.proofs.Patterns.{normal, root-of-bits}
 use Rattle.root.proofs.Aligning.{normal as aligned-normal}
 
 -- ---- the nearest: only one number passes
-near-unique : (n f r : ℕ) (b : Bool) → f * f ≤ n → n < (f + 1) * (f + 1) → r * r < n + r → n ≤ r * r + r → (T b → n ≤ f * f + f) → (T (not b) → f * f + f < n) → cond b f (f + 1) ≡ r
+near-unique : (n f r : ℕ) (b : Bool) → f * f ≤ n → n < (f + 1) * (f + 1) → r * r < n + r → n ≤ r * r + r → (T b → n ≤ f * f + f) → (T (not b) → f * f + f < n)
+    → cond b f (f + 1) ≡ r
 near-unique n f r b lo hi h k x y = pick b x y
   where
     not-less : f ≤ r
@@ -60,9 +62,11 @@ size-at : (n k z : ℕ) → 2 ^ 104 ≤ n → n < 2 ^ 106 → size (n * (2 ^ k *
 size-at n k z h l e =
     let p : 2 ^ k * 2 ^ k ≡ 2 ^ (k + k) = sym (pow-add 2 k k) in
     let x = n * (2 ^ k * 2 ^ k) in
-    let hi : z ≤ 106 + (k + k) = subst (λ (y : ℕ). y ≤ 106 + (k + k)) e (size-le x (106 + (k + k)) (rw (pow-add 2 106 (k + k), ← p) (mul-lt-mul-of-pos-right l (mul-pos (pow-pos k) (pow-pos k))))) in
+    let hi : z ≤ 106 + (k + k) = subst (λ (y : ℕ). y ≤ 106 + (k + k)) e
+    (size-le x (106 + (k + k)) (rw (pow-add 2 106 (k + k), ← p) (mul-lt-mul-of-pos-right l (mul-pos (pow-pos k) (pow-pos k))))) in
     let lo : 104 + (k + k) < z = lt-of-not-le (λ (g : z ≤ 104 + (k + k)).
-    not-le-of-lt (lt-of-lt-of-le (subst (λ (y : ℕ). x < 2 ^ y) e (size-lt x)) (pow-mono g)) (rw (pow-add 2 104 (k + k), ← p) (mul-le-mul-right (2 ^ k * 2 ^ k) h))) in
+    not-le-of-lt (lt-of-lt-of-le (subst (λ (y : ℕ). x < 2 ^ y) e (size-lt x)) (pow-mono g))
+    (rw (pow-add 2 104 (k + k), ← p) (mul-le-mul-right (2 ^ k * 2 ^ k) h))) in
     omega arith
 
 pub root-units : (n k r : ℕ) → 2 ^ 104 ≤ n → n < 2 ^ 106 → r * r < n + r → n ≤ r * r + r → rootUnits (n * (2 ^ k * 2 ^ k)) ≡ odd 53 false r k 1074
@@ -83,7 +87,8 @@ square t g a h e =
     ∙ sym (mul-assoc a (2 ^ 1024) (2 ^ 50))
     ∙ ap (λ (x : ℕ). x * 2 ^ 50) (sym e)
     ∙ mul-assoc t (2 ^ g) (2 ^ 50)
-    ∙ ap (λ (x : ℕ). t * x) (sym (pow-add 2 g 50) ∙ ap (λ (x : ℕ). 2 ^ x) i ∙ pow-add 2 (g % 2) (52 + (k + k)) ∙ ap (λ (x : ℕ). 2 ^ (g % 2) * x) (pow-add 2 52 (k + k) ∙ ap (λ (x : ℕ). 2 ^ 52 * x) (pow-add 2 k k)))
+    ∙ ap (λ (x : ℕ). t * x) (sym (pow-add 2 g 50) ∙ ap (λ (x : ℕ). 2 ^ x) i ∙ pow-add 2 (g % 2) (52 + (k + k)) ∙ ap (λ (x : ℕ). 2 ^ (g % 2) * x)
+    (pow-add 2 52 (k + k) ∙ ap (λ (x : ℕ). 2 ^ 52 * x) (pow-add 2 k k)))
     ∙ sym (mul-assoc t (2 ^ (g % 2)) (2 ^ 52 * (2 ^ k * 2 ^ k)))
     ∙ sym (mul-assoc (t * 2 ^ (g % 2)) (2 ^ 52) (2 ^ k * 2 ^ k))
 

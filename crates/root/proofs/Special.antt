@@ -38,7 +38,8 @@ unfolding rootOf
 root-of-minus nan a p v = absurd v
 root-of-minus (inf s) a p v = absurd v
 root-of-minus (fin false m e) a p v = absurd (true≢false (sym (v .0)))
-root-of-minus (fin true zero e) a p v = absurd (some a (down e) p (down-pos e) (sym (ap (λ (x : ℕ). x * 2 ^ 1074) (zero-mul (up e)) ∙ zero-mul (2 ^ 1074)) ∙ v .1))
+root-of-minus (fin true zero e) a p v = absurd (some a (down e) p (down-pos e)
+    (sym (ap (λ (x : ℕ). x * 2 ^ 1074) (zero-mul (up e)) ∙ zero-mul (2 ^ 1074)) ∙ v .1))
 root-of-minus (fin true (suc m) e) a p v = refl
 
 fields : (x t : ℕ) → 0 < x + t → rootOf (ofFields binary64 true x t) ≡ nan
@@ -49,11 +50,13 @@ fields (suc x) t h = go (eqb (suc x) 2047) (eqb t 0)
     go : (p q : Bool) → rootOf (cond p (cond q (inf true) nan) (odd 53 true (4503599627370496 + t) x 1074)) ≡ nan
     go true true = refl
     go true false = refl
-    go false q = root-of-minus (odd 53 true (4503599627370496 + t) x 1074) ((4503599627370496 + t) * 2 ^ x) (mul-pos (omega arith) (pow-pos x)) (odd-sign 53 true (4503599627370496 + t) x 1074)
+    go false q = root-of-minus (odd 53 true (4503599627370496 + t) x 1074) ((4503599627370496 + t) * 2 ^ x) (mul-pos (omega arith) (pow-pos x))
+        (odd-sign 53 true (4503599627370496 + t) x 1074)
 
 minus : (b : ℕ) → 9223372036854775808 < b → b < 18446744073709551616 → rootOf (ofBits binary64 b) ≡ nan
 minus b h k =
-    ap rootOf (ofBits-is b ∙ ap (λ (s : Bool). ofFields binary64 s (b % 9223372036854775808 / 4503599627370496) (b % 4503599627370496)) (is-true (leb 9223372036854775808 b) (le→leb 9223372036854775808 b (omega arith))))
+    ap rootOf (ofBits-is b ∙ ap (λ (s : Bool). ofFields binary64 s (b % 9223372036854775808 / 4503599627370496) (b % 4503599627370496))
+    (is-true (leb 9223372036854775808 b) (le→leb 9223372036854775808 b (omega arith))))
     ∙ fields (b % 9223372036854775808 / 4503599627370496) (b % 4503599627370496) (omega arith)
 
 -- no pattern between that of the infinity and that of -0
@@ -66,7 +69,8 @@ quotient : div binary64 (ofBits binary64 0) (ofBits binary64 0) ≡ nan
 unfolding div ofBits
 quotient = refl
 
-pub at-minus : (x : Float) → T (fits binary64 x) → T (not (isNan x)) → 9218868437227405312 ≤ toBits binary64 x → (toBits binary64 x ≡ 9218868437227405312 → ⊥) → (toBits binary64 x ≡ 9223372036854775808 → ⊥)
+pub at-minus : (x : Float) → T (fits binary64 x) → T (not (isNan x)) → 9218868437227405312 ≤ toBits binary64 x → (toBits binary64 x ≡ 9218868437227405312 → ⊥)
+    → (toBits binary64 x ≡ 9223372036854775808 → ⊥)
     → div binary64 (ofBits binary64 0) (ofBits binary64 0) ≡ rootOf x
 at-minus x f n p q r =
     let b = toBits binary64 x in

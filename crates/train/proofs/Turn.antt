@@ -1,6 +1,6 @@
 -- Lemmas: the train of impacts, up to each place where one turn of it may end.
 use Prim.Native.Nat.{ℕ, zero, suc, _+_, _-_, _*_, _≤_, zero-le}
-use mathlib.Core.Path.{_≡_, refl}
+use mathlib.Core.Path.{_≡_, refl, _∙_, sym}
 use mathlib.Core.Bool.{Bool, true, false, not}
 use mathlib.Core.List.{List}
 use lib.Ieee.{Float}
@@ -10,7 +10,7 @@ use borrow.Author.Tests.{leb-true, leb-false}
 use Rattle.state.specs.declared.BallState.{BallState}
 use Rattle.state.specs.declared.Phase.the-variants.{Hop as InHop}
 use Rattle.look.specs.Tree.{bind, Oracle, exec}
-use Rattle.tally.specs.Language.{M, contactWidth, Log, Outcome, goes, stops, stopWith, _>>=_, _>>_, if_then_else_, pushContact}
+use Rattle.tally.specs.Language.{M, contactWidth, stops, _>>=_, _>>_, if_then_else_, pushContact}
 use Rattle.tally.specs.Contracts.{Place, place, logAt, firstTally, RunsOn, Reached}
 use Rattle.tally.specs.declared.Conditions.{Conditions}
 use Rattle.tally.specs.declared.Tally.{Tally}
@@ -107,16 +107,16 @@ module _ {o : Oracle} {w : M Ending} {p₀ : Place} (c : Conditions) (state : Ba
 
   module _ (k : ℕ) (hit : Struck) (hops : Bool) (here : At o w p₀ (bodyOf c state hops (c .physics .«max_impacts» - (k + 1)) hit) (place t mc mp)) where
     -- the last impact that max_impacts allows
-    pub ends-last : (x : RunOut) {mc' mp' : List Float} → isLast hops k (c .physics .«max_impacts») ≡ true → LastImpacts o state hit t mc mp x mc' mp'
-        → RunsOn o w p₀ (endedBy x) (place (afterRun x) mc' mp')
-    ends-last x v h = on (last (rw (last-is c state hops hit k _ v) at here) h)
+    pub ends-last : (x : RunOut) {z : Bool} {mc' mp' : List Float} → z ≡ isLast hops k (c .physics .«max_impacts») → z ≡ true
+        → LastImpacts o state hit t mc mp x mc' mp' → RunsOn o w p₀ (endedBy x) (place (afterRun x) mc' mp')
+    ends-last x e v h = on (last (rw (last-is c state hops hit k _ (sym e ∙ v)) at here) h)
 
     -- any other
-    module _ (v : isLast hops k (c .physics .«max_impacts») ≡ false) where
+    module _ {z : Bool} (i : z ≡ isLast hops k (c .physics .«max_impacts»)) (v : z ≡ false) where
       to-fly : At o w p₀ (fly c hops state hit >>= flownTo c state (c .physics .«max_impacts» - (k + 1 + 1)) hit) (place t mc mp)
       to-fly = said (bodyOf c state hops (c .physics .«max_impacts» - (k + 1)) hit)
           (fly c hops state hit >>= flownTo c state (c .physics .«max_impacts» - (k + 1 + 1)) hit) here
-          (fly-is c state o (place t mc mp) hit hops k (c .physics .«max_impacts») v)
+          (fly-is c state o (place t mc mp) hit hops k (c .physics .«max_impacts») (sym i ∙ v))
 
       pub ends-flight : {r : FlyOut} {mp' : List Float} {i : ℕ} → Flies o c hops state hit t mp r mp' → r .how ≡ FlyEnded i
           → RunsOn o w p₀ (stops i) (place (r .tally) mc mp')

@@ -19,67 +19,46 @@ abbrev μ-loop : tie.MeasureT-loop
 loop-holds : tie.Need-loop-holds Inv-loop μ-loop
 loop-holds c = starts _ _ (rows-all _ _ _)
 
+-- ---- the places on the way, each from a later one
+
+abbrev start : tie.In-loop Inv-loop μ-loop → tie.Start Inv-loop μ-loop
+start c = c .before .before .before .before .before .before
+
+abbrev turn : tie.After-try-row Inv-loop μ-loop → tie.In-loop Inv-loop μ-loop
+turn c = c .before .before .before
+
+-- ---- the answers
+
 try-row-requires : tie.Need-try-row-requires Inv-loop μ-loop
 try-row-requires c κs =
-    let at-loop = c .before .before .before in
-    let at-start = at-loop .before .before .before .before .before in
-    let i : at-loop .loop .i ≤ 32 = omega (arith, c .before .before .loop-test .taken, at-start .pre .2) in
-    (as-long (at-loop .loop .inv) (at-start .pre .0), at-start .pre .1, i, at-start .pre .3)
-
-enum-known-tried : tie.Need-enum-known-tried Inv-loop μ-loop
-enum-known-tried c = search needs
+    let t = c .before .before in
+    let p = start t .pre in
+    let i : t .before .loop .i ≤ 32 = omega (arith, t .loop-test .taken, p .2) in
+    (as-long (t .before .loop .inv) (p .0), p .1, i, p .3)
 
 same-length : tie.Need-same-length Inv-loop μ-loop
-same-length c =
-    let at-contacts = c .before .before .before .before .before .before in
-    let at-try-row = at-contacts .before in
-    let at-loop = at-try-row .before .before .before .before in
-    at-try-row .try-row .kept .1 .1 .1 .1 .1 .1 .0 ∙ at-loop .loop .inv .cl
+same-length c = let t : tie.After-try-row Inv-loop μ-loop = search in t .try-row .kept .1 .1 .1 .1 .1 .1 .0 ∙ turn t .before .loop .inv .cl
 
 same-length-2 : tie.Need-same-length-2 Inv-loop μ-loop
-same-length-2 c =
-    let at-contacts = c .before .before .before .before .before .before in
-    let at-try-row = at-contacts .before in
-    let at-loop = at-try-row .before .before .before .before in
-    at-try-row .try-row .kept .1 .1 .1 .1 .1 .1 .1 .0 ∙ at-loop .loop .inv .pl
+same-length-2 c = let t : tie.After-try-row Inv-loop μ-loop = search in t .try-row .kept .1 .1 .1 .1 .1 .1 .1 .0 ∙ turn t .before .loop .inv .pl
 
 returns : tie.Need-returns Inv-loop μ-loop
 returns c =
-    let at-contacts = c .before .before .before .before .before .before in
-    let at-try-row = at-contacts .before in
-    let at-loop-test = at-try-row .before .before .before in
-    ends-hit (at-loop-test .before .loop .inv) _ _ _ _ (rows-next _ _ _ _ (at-loop-test .loop-test .taken)) (at-try-row .try-row .ensures)
+    let t : tie.After-try-row Inv-loop μ-loop = search in
+    ends-hit (turn t .before .loop .inv) _ _ _ _ (rows-next _ _ _ _ (turn t .loop-test .taken)) (t .try-row .ensures)
     (c .before .tried .given .1)
 
-enum-told : tie.Need-enum-told Inv-loop μ-loop
-enum-told c = search needs
-
 add-i : tie.Need-add-i Inv-loop μ-loop
-add-i c =
-    let at-try-row = c .before .before .before .before .before .before in
-    let at-loop-test = at-try-row .before .before .before in
-    let at-start = at-loop-test .before .before .before .before .before .before in
-    omega (arith, at-loop-test .loop-test .taken, at-start .pre .2)
+add-i c = let t : tie.In-loop Inv-loop μ-loop = search in omega (arith, t .loop-test .taken, start t .pre .2)
 
 loop-less : tie.Need-loop-less Inv-loop μ-loop
-loop-less c =
-    let at-try-row = c .before .before .before .before .before .before in
-    let at-loop-test = at-try-row .before .before .before in
-    omega (arith, at-loop-test .loop-test .taken)
+loop-less c = let t : tie.In-loop Inv-loop μ-loop = search in omega (arith, t .loop-test .taken)
 
 loop-again : tie.Need-loop-again Inv-loop μ-loop
 loop-again c =
-    let at-try-row = c .before .before .before .before .before .before in
-    let at-loop-test = at-try-row .before .before .before in
-    goes-on (at-loop-test .before .loop .inv) _ _ _ _ (rows-next _ _ _ _ (at-loop-test .loop-test .taken)) (at-try-row .try-row .ensures)
-    (c .enum-told .given .1)
-    (at-try-row .try-row .kept .1 .1 .1 .1 .1 .1 .0) (at-try-row .try-row .kept .1 .1 .1 .1 .1 .1 .1 .0)
-
-same-length-3 : tie.Need-same-length-3 Inv-loop μ-loop
-same-length-3 c = c .before .loop .inv .cl
-
-same-length-4 : tie.Need-same-length-4 Inv-loop μ-loop
-same-length-4 c = c .before .loop .inv .pl
+    let t : tie.After-try-row Inv-loop μ-loop = search in
+    goes-on (turn t .before .loop .inv) _ _ _ _ (rows-next _ _ _ _ (turn t .loop-test .taken)) (t .try-row .ensures)
+    (c .enum-told .given .1) (t .try-row .kept .1 .1 .1 .1 .1 .1 .0) (t .try-row .kept .1 .1 .1 .1 .1 .1 .1 .0)
 
 returns-2 : tie.Need-returns-2 Inv-loop μ-loop
 returns-2 c = ends-missed (c .before .loop .inv) (rows-end _ _ _ _ (c .loop-test .left))
@@ -92,14 +71,14 @@ try-grid-spec =
     μ-loop
     loop-holds
     try-row-requires
-    enum-known-tried
+    (λ c. search needs)
     same-length
     same-length-2
     returns
-    enum-told
+    (λ c. search needs)
     add-i
     loop-less
     loop-again
-    same-length-3
-    same-length-4
+    (λ c. c .before .loop .inv .cl)
+    (λ c. c .before .loop .inv .pl)
     returns-2)

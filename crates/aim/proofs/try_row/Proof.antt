@@ -18,71 +18,50 @@ abbrev μ-loop : tie.MeasureT-loop
 loop-holds : tie.Need-loop-holds Inv-loop μ-loop
 loop-holds c = starts _ _ (row-all _ _ _)
 
+-- ---- the places on the way, each from a later one
+
+abbrev start : tie.In-loop Inv-loop μ-loop → tie.Start Inv-loop μ-loop
+start c = c .before .before .before .before .before .before
+
+abbrev landing : tie.After-try-at Inv-loop μ-loop → tie.After-with-speeds Inv-loop μ-loop
+landing c = c .before .before .before
+
+abbrev turn : tie.After-try-at Inv-loop μ-loop → tie.In-loop Inv-loop μ-loop
+turn c = landing c .before
+
+-- ---- the answers
+
 try-at-requires : tie.Need-try-at-requires Inv-loop μ-loop
 try-at-requires c κs =
-    let at-loop-test = c .before .before .before in
-    let at-start = at-loop-test .before .before .before .before .before .before in
-    let j : at-loop-test .before .loop .j ≤ 32 = omega (arith, at-loop-test .loop-test .taken, at-start .pre .3) in (
-      can-try (at-loop-test .before .loop .inv) _ _ (at-start .pre .0) (at-start .pre .2) j (c .before .before .with-speeds .ensures),
-      at-start .pre .1,
-    )
-
-enum-known-tried : tie.Need-enum-known-tried Inv-loop μ-loop
-enum-known-tried c = search needs
+    let w = c .before .before in
+    let t = w .before in
+    let p = start t .pre in
+    let j : t .before .loop .j ≤ 32 = omega (arith, t .loop-test .taken, p .3) in
+    (can-try (t .before .loop .inv) _ _ (p .0) (p .2) j (w .with-speeds .ensures), p .1)
 
 same-length : tie.Need-same-length Inv-loop μ-loop
-same-length c =
-    let at-contacts = c .before .before .before .before .before .before in
-    let at-try-at = at-contacts .before in
-    let at-loop = at-try-at .before .before .before .before .before in
-    at-try-at .try-at .kept .1 .1 .1 .1 .1 .0 ∙ at-loop .loop .inv .cl
+same-length c = let t : tie.After-try-at Inv-loop μ-loop = search in t .try-at .kept .1 .1 .1 .1 .1 .0 ∙ turn t .before .loop .inv .cl
 
 same-length-2 : tie.Need-same-length-2 Inv-loop μ-loop
-same-length-2 c =
-    let at-contacts = c .before .before .before .before .before .before in
-    let at-try-at = at-contacts .before in
-    let at-loop = at-try-at .before .before .before .before .before in
-    at-try-at .try-at .kept .1 .1 .1 .1 .1 .1 .0 ∙ at-loop .loop .inv .pl
+same-length-2 c = let t : tie.After-try-at Inv-loop μ-loop = search in t .try-at .kept .1 .1 .1 .1 .1 .1 .0 ∙ turn t .before .loop .inv .pl
 
 returns : tie.Need-returns Inv-loop μ-loop
 returns c =
-    let at-contacts = c .before .before .before .before .before .before in
-    let at-try-at = at-contacts .before in
-    let at-with-speeds = at-try-at .before .before .before in
-    ends-hit (at-with-speeds .before .before .loop .inv) _ _ _ _
-    (row-next _ _ _ _ (at-with-speeds .before .loop-test .taken) (at-with-speeds .with-speeds .ensures)) (at-try-at .try-at .ensures)
+    let t : tie.After-try-at Inv-loop μ-loop = search in
+    ends-hit (turn t .before .loop .inv) _ _ _ _ (row-next _ _ _ _ (turn t .loop-test .taken) (landing t .with-speeds .ensures)) (t .try-at .ensures)
     (c .before .tried .given .1)
 
-enum-told : tie.Need-enum-told Inv-loop μ-loop
-enum-told c = search needs
-
 add-j : tie.Need-add-j Inv-loop μ-loop
-add-j c =
-    let at-try-at = c .before .before .before .before .before .before in
-    let at-loop-test = at-try-at .before .before .before .before in
-    let at-start = at-loop-test .before .before .before .before .before .before in
-    omega (arith, at-loop-test .loop-test .taken, at-start .pre .3)
+add-j c = let t : tie.In-loop Inv-loop μ-loop = search in omega (arith, t .loop-test .taken, start t .pre .3)
 
 loop-less : tie.Need-loop-less Inv-loop μ-loop
-loop-less c =
-    let at-try-at = c .before .before .before .before .before .before in
-    let at-loop-test = at-try-at .before .before .before .before in
-    omega (arith, at-loop-test .loop-test .taken)
+loop-less c = let t : tie.In-loop Inv-loop μ-loop = search in omega (arith, t .loop-test .taken)
 
 loop-again : tie.Need-loop-again Inv-loop μ-loop
 loop-again c =
-    let at-try-at = c .before .before .before .before .before .before in
-    let at-with-speeds = at-try-at .before .before .before in
-    goes-on (at-with-speeds .before .before .loop .inv) _ _ _ _
-    (row-next _ _ _ _ (at-with-speeds .before .loop-test .taken) (at-with-speeds .with-speeds .ensures)) (at-try-at .try-at .ensures)
-    (c .enum-told .given .1)
-    (at-try-at .try-at .kept .1 .1 .1 .1 .1 .0) (at-try-at .try-at .kept .1 .1 .1 .1 .1 .1 .0)
-
-same-length-3 : tie.Need-same-length-3 Inv-loop μ-loop
-same-length-3 c = c .before .loop .inv .cl
-
-same-length-4 : tie.Need-same-length-4 Inv-loop μ-loop
-same-length-4 c = c .before .loop .inv .pl
+    let t : tie.After-try-at Inv-loop μ-loop = search in
+    goes-on (turn t .before .loop .inv) _ _ _ _ (row-next _ _ _ _ (turn t .loop-test .taken) (landing t .with-speeds .ensures)) (t .try-at .ensures)
+    (c .enum-told .given .1) (t .try-at .kept .1 .1 .1 .1 .1 .0) (t .try-at .kept .1 .1 .1 .1 .1 .1 .0)
 
 returns-2 : tie.Need-returns-2 Inv-loop μ-loop
 returns-2 c = ends-missed (c .before .loop .inv) (row-end _ _ _ _ (c .loop-test .left))
@@ -96,14 +75,14 @@ try-row-spec =
     loop-holds
     (λ c κs. tt)
     try-at-requires
-    enum-known-tried
+    (λ c. search needs)
     same-length
     same-length-2
     returns
-    enum-told
+    (λ c. search needs)
     add-j
     loop-less
     loop-again
-    same-length-3
-    same-length-4
+    (λ c. c .before .loop .inv .cl)
+    (λ c. c .before .loop .inv .pl)
     returns-2)

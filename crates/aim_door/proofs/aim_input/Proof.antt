@@ -42,17 +42,17 @@ returns-2 : tie.Need-returns-2
 returns-2 c =
     let a = c .before .before .before .before .before .before .args in
     rw (
-      long (a .input .now) (a .target) (a .forward) (a .downward) (a .contacts .now) (a .points .now) (c .before .before .if1 .left) (c .before .if2 .taken),
+      long (a .input .now) (a .target) (a .forward) (a .downward) (a .contacts .now) (a .points .now) (omega arith) (c .before .if2 .taken),
       ← c .no-aim2 .ensures,
     )
 
 returns-3 : tie.Need-returns-3
 returns-3 c =
-    let at-aim = c .before .before .before .before in
-    let at-shot = at-aim .before .before .before .before in
+    let at-aim : tie.After-aim = search in
+    let at-shot : tie.After-shot-at = search in
     let a = at-shot .before .before .before .before .before .before .args in
     aims (a .input .now) (a .target) (a .forward) (a .downward) (a .contacts .now) (a .points .now) (at-aim .aim .ensures) (part (a .input .now))
-    (at-shot .shot-at .ensures) (at-shot .before .before .if1 .left) (at-shot .before .if2 .left)
+    (at-shot .shot-at .ensures) (omega arith) (at-shot .before .if2 .left)
 
 pub aim-input-spec : {M : Type 1} → statement M
 aim-input-spec =

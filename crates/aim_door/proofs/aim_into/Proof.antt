@@ -16,10 +16,10 @@ made a l e r = rw r (ap (λ (w : Aim). intoOf w l) e)
 
 returns : tie.Need-returns
 returns c =
-    let at-put = c .before .before in
-    let at-lets = at-put .before .before .before .before .before .before in
-    let at-aim = at-lets .before .before .before .before .before .before in
-    made (at-aim .aim-input .result) _ (at-aim .aim-input .ensures) (at-put .put .ensures)
+    let at-put : tie.After-put = search in
+    let at-lets : tie.After-b = search in
+    let at-aim : tie.After-aim-input = search in
+    made _ _ (at-aim .aim-input .ensures) (at-put .put .ensures)
 
 pub aim-into-spec : {M : Type 1} → statement M
 aim-into-spec =

@@ -5,24 +5,13 @@ use Rattle.arrival.specs.Arrival.{clearance}
 use Rattle.arrival.proofs.clear.Statement.{statement}
 use Rattle.arrival.proofs.clear.Tie as tie
 
-look-requires : tie.Need-look-requires
-look-requires c κs = search needs
-
-enum-known-s : tie.Need-enum-known-s
-enum-known-s c = search needs
-
-enum-told : tie.Need-enum-told
-enum-told c = search needs
-
 returns : tie.Need-returns
 unfolding clearance
 returns c lc lp = ended (spot-off _ _ _ begun (c .before .before .look .ensures) (c .enum-told .given .1))
 
 returns-2 : tie.Need-returns-2
 unfolding clearance
-returns-2 c lc lp =
-    let at-s = c .before .before .before in
-    ended (spot-seen _ _ _ begun (at-s .before .before .look .ensures) (at-s .s .given .1))
+returns-2 c lc lp = let s : tie.After-s = search in ended (spot-seen _ _ _ begun (s .before .before .look .ensures) (s .s .given .1))
 
 pub clear-spec : {M : Type 1} → statement M
-clear-spec = tie.close (tie.spec look-requires enum-known-s enum-told returns returns-2)
+clear-spec = tie.close (tie.spec (λ c κs. search needs) (λ c. search needs) (λ c. search needs) returns returns-2)

@@ -9,29 +9,18 @@ use Rattle.arrival.specs.Contracts.{valueBy}
 use Rattle.arrival.proofs.end_value.Statement.{statement}
 use Rattle.arrival.proofs.end_value.Tie as tie
 
-clearance-at-requires : tie.Need-clearance-at-requires
-clearance-at-requires c κs =
-    let at-start = c .before .before .before .before .before in
-    at-start .pre
-
-enum-known-what : tie.Need-enum-known-what
-enum-known-what c = search needs
-
-enum-told : tie.Need-enum-told
-enum-told c = search needs
-
 returns : tie.Need-returns
 unfolding endValue
 returns c =
-    let at-clearance-at = c .before .before .before in
-    λ l. rw (at-clearance-at .before .if1 .taken) (halted _ _ _ _ l (at-clearance-at .clearance-at .ensures l) (ap valueBy (c .enum-told .given .1)))
+    let v : tie.After-clearance-at = search in
+    λ l. rw (v .before .if1 .taken) (halted _ _ _ _ l (v .clearance-at .ensures l) (ap valueBy (c .enum-told .given .1)))
 
 returns-2 : tie.Need-returns-2
 unfolding endValue exec ofBits round
 returns-2 c =
-    let at-clearance-at = c .before .before .before .before .before in
-    λ l. rw (at-clearance-at .before .if1 .taken) (went _ _ _ _ l (at-clearance-at .clearance-at .ensures l)
-    (ap valueBy (c .before .before .what .given .1)) (rw (c .min .ensures)))
+    let w = c .before .before in
+    let v : tie.After-clearance-at = search in
+    λ l. rw (v .before .if1 .taken) (went _ _ _ _ l (v .clearance-at .ensures l) (ap valueBy (w .what .given .1)) (rw (c .min .ensures)))
 
 returns-3 : tie.Need-returns-3
 unfolding endValue exec
@@ -40,4 +29,4 @@ returns-3 c = λ l. rw (c .if1 .left)
 pub end-value-spec : {M : Type 1} → statement M
 end-value-spec =
     tie.close
-    (tie.spec clearance-at-requires enum-known-what enum-told returns (λ c κs. tt) returns-2 returns-3)
+    (tie.spec (λ c κs. search needs) (λ c. search needs) (λ c. search needs) returns (λ c κs. tt) returns-2 returns-3)

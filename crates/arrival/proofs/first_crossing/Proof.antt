@@ -1,7 +1,7 @@
 -- The search for the first crossing: the sub-steps left from here give what all eight gave from the start.
 use borrow.Author.Needs.{needs}
 use lib.Ieee.{ofBits, round}
-use Prim.Native.Nat.{_+_, _-_, _≤_, suc}
+use Prim.Native.Nat.{_-_, _≤_}
 use native.Mathlib.Omega.{arith}
 use mathlib.Core.Path.{_≡_, refl, ap, _∙_}
 use Rattle.course.specs.Sheet.{courseOf}
@@ -25,64 +25,47 @@ abbrev μ-loop : tie.MeasureT-loop
 loop-holds : tie.Need-loop-holds Inv-loop μ-loop
 loop-holds c = ((λ l. refl), omega arith)
 
-sub-step-requires : tie.Need-sub-step-requires Inv-loop μ-loop
-sub-step-requires c κs =
-    let at-start = c .before .before .before .before .before in
-    at-start .pre
-
-enum-known-how : tie.Need-enum-known-how Inv-loop μ-loop
-enum-known-how c = search needs
-
-enum-told : tie.Need-enum-told Inv-loop μ-loop
-enum-told c = search needs
+-- the sub-step that was made
+abbrev sub : tie.After-how Inv-loop μ-loop → tie.After-sub-step Inv-loop μ-loop
+sub c = c .before .before .before
 
 returns : tie.Need-returns Inv-loop μ-loop
 unfolding firstCrossing
 returns c =
-    let at-sub-step = c .before .before .before in
-    let at-at-start = at-sub-step .before .before .before in
-    let e : 9 - at-sub-step .before .before .loop .i ≡ suc (8 - at-sub-step .before .before .loop .i) = omega
-    (arith, at-sub-step .before .loop-test .taken) in
-    λ l. rw (← at-at-start .at-start .ensures) (crossing-off _ _ _ _ _ _ _ l e (at-sub-step .sub-step .ensures l)
-    (ap subStepBy (c .enum-told .given .1)) ∙ at-sub-step .before .before .loop .inv .0 l)
+    let s : tie.After-sub-step Inv-loop μ-loop = search in
+    let i = s .before .before in
+    λ l. rw (← i .before .at-start .ensures) (crossing-off _ _ _ _ _ _ _ l (s .before .loop-test .taken) (s .sub-step .ensures l)
+    (ap subStepBy (c .enum-told .given .1)) ∙ i .loop .inv .0 l)
 
 returns-2 : tie.Need-returns-2 Inv-loop μ-loop
 unfolding firstCrossing ofBits round
 returns-2 c =
-    let at-how = c .before .before .before in
-    let at-sub-step = at-how .before .before .before in
-    let at-at-start = at-sub-step .before .before .before in
-    let e : 9 - at-sub-step .before .before .loop .i ≡ suc (8 - at-sub-step .before .before .loop .i) = omega
-    (arith, at-sub-step .before .loop-test .taken) in
-    λ l. rw (← at-at-start .at-start .ensures) (crossing-at _ _ _ _ _ _ _ l e (at-sub-step .sub-step .ensures l)
-    (ap subStepBy (at-how .how .given .1)) (c .if1 .taken) ∙ at-sub-step .before .before .loop .inv .0 l)
-
-add-i : tie.Need-add-i Inv-loop μ-loop
-add-i c = omega arith
+    let h : tie.After-how Inv-loop μ-loop = search in
+    let s = sub h in
+    let i = s .before .before in
+    λ l. rw (← i .before .at-start .ensures) (crossing-at _ _ _ _ _ _ _ l (s .before .loop-test .taken) (s .sub-step .ensures l)
+    (ap subStepBy (h .how .given .1)) (c .if1 .taken) ∙ i .loop .inv .0 l)
 
 loop-less : tie.Need-loop-less Inv-loop μ-loop
-loop-less c =
-    let at-sub-step = c .before .before .before .before .before .before in
-    let at-loop-test = at-sub-step .before in
-    omega (arith, at-loop-test .loop-test .taken)
+loop-less c = let t : tie.In-loop Inv-loop μ-loop = search in omega (arith, t .loop-test .taken)
 
 loop-again : tie.Need-loop-again Inv-loop μ-loop
 unfolding ofBits round
 loop-again c =
-    let at-how = c .before .before .before in
-    let at-sub-step = at-how .before .before .before in
-    let e : 9 - at-sub-step .before .before .loop .i ≡ suc (9 - (at-sub-step .before .before .loop .i + 1)) = omega
-    (arith, at-sub-step .before .loop-test .taken) in (
-      (λ l. crossing-on _ _ _ _ _ _ _ l e (at-sub-step .sub-step .ensures l) (ap subStepBy (at-how .how .given .1))
-          (c .if1 .left) ∙ at-sub-step .before .before .loop .inv .0 l),
-      omega (arith, at-sub-step .before .loop-test .taken),
+    let h : tie.After-how Inv-loop μ-loop = search in
+    let s = sub h in
+    let t = s .before in (
+      (λ l. crossing-on _ _ _ _ _ _ _ l (t .loop-test .taken) (s .sub-step .ensures l) (ap subStepBy (h .how .given .1)) (c .if1 .left)
+          ∙ t .before .loop .inv .0 l),
+      omega (arith, t .loop-test .taken),
     )
 
 returns-3 : tie.Need-returns-3 Inv-loop μ-loop
 unfolding firstCrossing crossingFrom exec
 returns-3 c =
-    let e : 9 - c .before .loop .i ≡ 0 = omega (arith, c .loop-test .left) in
-    λ l. rw (← c .before .before .at-start .ensures) (rw e at (c .before .loop .inv .0 l))
+    let i = c .before in
+    let e : 9 - i .loop .i ≡ 0 = omega (arith, c .loop-test .left) in
+    λ l. rw (← i .before .at-start .ensures) (rw e at (i .loop .inv .0 l))
 
 pub first-crossing-spec : {M : Type 1} → statement M
 first-crossing-spec =
@@ -92,12 +75,12 @@ first-crossing-spec =
     μ-loop
     (λ c κs. tt)
     loop-holds
-    sub-step-requires
-    enum-known-how
-    enum-told
+    (λ c κs. search needs)
+    (λ c. search needs)
+    (λ c. search needs)
     returns
     returns-2
-    add-i
+    (λ c. omega arith)
     loop-less
     loop-again
     returns-3)

@@ -14,12 +14,13 @@ returns c = rw (lt-ltb _ _ (c .if1 .taken))
 returns-2 : tie.Need-returns-2
 unfolding answerOf near ofBits round neg
 returns-2 c =
-    let at-within2 = c .before .before .before in
+    let at-if2 : tie.Then2 = search in
+    let at-within : tie.After-within = search in
     simp (
-      le-ltb _ _ (at-within2 .before .before .if1 .left),
-      ← at-within2 .within2 .ensures,
-      ← at-within2 .before .within .ensures,
-      c .before .before .if2 .taken,
+      le-ltb _ _ (at-within .before .if1 .left),
+      ← at-if2 .before .within2 .ensures,
+      ← at-within .within .ensures,
+      at-if2 .if2 .taken,
       ← c .before .holds-shot .ensures,
       c .if3 .taken,
     )
@@ -27,18 +28,18 @@ returns-2 c =
 returns-3 : tie.Need-returns-3
 unfolding answerOf near ofBits round neg
 returns-3 c =
-    let at-holds-shot = c .before .before .before in
-    let at-within = at-holds-shot .before .before .before in
-    let at-start = at-within .before .before .before in
-    let s = at-start in
-    let n = sized (s .args .entries) (s .args .count) (s .good .0 .1 .0 .1) (s .pre) in
+    let at-if3 : tie.Else3 = search in
+    let at-if2 : tie.Then2 = search in
+    let at-within : tie.After-within = search in
+    let at-start : tie.Start = search in
+    let n = sized (at-start .args .entries) (at-start .args .count) (at-start .good .0 .1 .0 .1) (at-start .pre) in
     simp (
       le-ltb _ _ (at-within .before .if1 .left),
-      ← at-holds-shot .before .before .within2 .ensures,
+      ← at-if2 .before .within2 .ensures,
       ← at-within .within .ensures,
-      at-holds-shot .before .if2 .taken,
-      ← at-holds-shot .holds-shot .ensures,
-      c .before .before .if3 .left,
+      at-if2 .if2 .taken,
+      ← at-if3 .before .holds-shot .ensures,
+      at-if3 .if3 .left,
       n,
       ← c .before .used .ensures,
       c .if4 .taken,
@@ -47,18 +48,18 @@ returns-3 c =
 returns-4 : tie.Need-returns-4
 unfolding answerOf near ofBits round neg
 returns-4 c =
-    let at-holds-shot = c .before .before .before in
-    let at-within = at-holds-shot .before .before .before in
-    let at-start = at-within .before .before .before in
-    let s = at-start in
-    let n = sized (s .args .entries) (s .args .count) (s .good .0 .1 .0 .1) (s .pre) in
+    let at-if3 : tie.Else3 = search in
+    let at-if2 : tie.Then2 = search in
+    let at-within : tie.After-within = search in
+    let at-start : tie.Start = search in
+    let n = sized (at-start .args .entries) (at-start .args .count) (at-start .good .0 .1 .0 .1) (at-start .pre) in
     simp (
       le-ltb _ _ (at-within .before .if1 .left),
-      ← at-holds-shot .before .before .within2 .ensures,
+      ← at-if2 .before .within2 .ensures,
       ← at-within .within .ensures,
-      at-holds-shot .before .if2 .taken,
-      ← at-holds-shot .holds-shot .ensures,
-      c .before .before .if3 .left,
+      at-if2 .if2 .taken,
+      ← at-if3 .before .holds-shot .ensures,
+      at-if3 .if3 .left,
       n,
       ← c .before .used .ensures,
       c .if4 .left,
@@ -67,8 +68,7 @@ returns-4 c =
 returns-5 : tie.Need-returns-5
 unfolding answerOf near ofBits round neg
 returns-5 c =
-    let at-if1 = c .before .before .before in
-    simp (le-ltb _ _ (at-if1 .if1 .left), ← c .before .within2 .ensures, ← c .before .before .within .ensures, c .if2 .left)
+    simp (le-ltb _ _ (c .before .before .before .if1 .left), ← c .before .within2 .ensures, ← c .before .before .within .ensures, c .if2 .left)
 
 pub answer-of-spec : {M : Type 1} → statement M
 answer-of-spec =

@@ -1,3 +1,4 @@
+use borrow.Author.Needs.{needs}
 use Prim.Native.Nat.{_≤_, _-_}
 use native.Mathlib.Omega.{arith}
 use mathlib.Core.Path.{_≡_, refl}
@@ -31,8 +32,10 @@ array-copy-out-e : tie.Need-array-copy-out-e Inv-loop μ-loop
 array-copy-out-e c = omega arith
 
 returns : tie.Need-returns Inv-loop μ-loop
-returns c = held _ _ (long (c .before .before .before .before .before)) _ _ _ (c .before .before .before .before .loop .inv .1)
-    (c .before .before .before .loop-test .taken) (eq-eqb _ _ (c .if1 .taken))
+returns c =
+    let at-loop-test : tie.In-loop Inv-loop μ-loop = search in
+    held _ _ (long (at-loop-test .before .before)) _ _ _ (search needs)
+    (at-loop-test .loop-test .taken) (eq-eqb _ _ (c .if1 .taken))
 
 add-i : tie.Need-add-i Inv-loop μ-loop
 add-i c = omega arith
@@ -41,11 +44,12 @@ loop-less : tie.Need-loop-less Inv-loop μ-loop
 loop-less c = omega arith
 
 loop-again : tie.Need-loop-again Inv-loop μ-loop
-loop-again c = (
-  omega arith,
-  not-held _ _ (long (c .before .before .before .before .before)) _ _ _ (c .before .before .before .before .loop .inv .1)
-      (c .before .before .before .loop-test .taken) (ne-eqb _ _ (c .if1 .left)),
-)
+loop-again c =
+    let at-loop-test : tie.In-loop Inv-loop μ-loop = search in (
+      omega arith,
+      not-held _ _ (long (at-loop-test .before .before)) _ _ _ (search needs)
+          (at-loop-test .loop-test .taken) (ne-eqb _ _ (c .if1 .left)),
+    )
 
 returns-2 : tie.Need-returns-2 Inv-loop μ-loop
 returns-2 c = missing _ _ (long (c .before .before)) _ none _ (c .before .loop .inv .1) (c .loop-test .left)

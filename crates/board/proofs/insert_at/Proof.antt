@@ -51,9 +51,10 @@ array-set-from-out-2 c = omega arith
 
 returns : tie.Need-returns Inv-loop μ-loop
 returns c =
+    let start : tie.Start Inv-loop μ-loop = search in
     let l = c .before .loop in
-    let e : l .j ≡ c .before .before .args .count = omega arith in
-    let k : c .before .before .args .count < length (l .out) = omega arith in
+    let e : l .j ≡ start .args .count = omega arith in
+    let k : start .args .count < length (l .out) = omega arith in
     shift-end (l .out) _ (l .next) k ∙ (rw e at (l .inv .2))
 
 pub insert-at-spec : {M : Type 1} → statement M

@@ -15,9 +15,6 @@ use Rattle.board.proofs.insert_entry.Lts as lts
 use Rattle.board.proofs.insert_at.Reads as insert-at-reads
 use Rattle.board.proofs.place_of.Reads as place-of-reads
 
-place-of-requires : tie.Need-place-of-requires
-place-of-requires c κs = search needs
-
 insert-at-requires : tie.Need-insert-at-requires
 insert-at-requires c κs =
     let a = c .before .args in
@@ -30,11 +27,12 @@ insert-at-requires c κs =
 
 returns : tie.Need-returns
 returns c =
-    let a = c .before .before .args in
-    let l : length (a .entries) ≡ 256 = c .before .before .good .0 .1 .0 .1 in
-    let p = c .before .before .pre in
+    let start : tie.Start = search in
+    let a = start .args in
+    let l : length (a .entries) ≡ 256 = start .good .0 .1 .0 .1 in
+    let p = start .pre in
     let n : a .count ≤ length (a .entries) = omega arith in
     rw (c .insert-at .ensures, c .before .place-of .ensures, inserted _ _ (a .entries) (a .count) n)
 
 pub insert-entry-spec : {M : Type 1} → statement M
-insert-entry-spec = tie.close (tie.spec place-of-requires insert-at-requires returns)
+insert-entry-spec = tie.close (tie.spec (λ c κs. search needs) insert-at-requires returns)

@@ -5,14 +5,16 @@ use Rattle.board.proofs.is_before.Tie as tie
 
 returns : tie.Need-returns
 unfolding isBefore byFirst
-returns c = simp (
-  c .cleaner .ensures,
-  ← c .before .key2 .ensures,
-  ← c .before .before .key .ensures,
-  ← c .before .before .before .moving2 .ensures,
-  ← c .before .before .before .before .moving .ensures,
-  byFirst,
-)
+returns c =
+    let at-key : tie.After-key = search in
+    simp (
+      c .cleaner .ensures,
+      ← c .before .key2 .ensures,
+      ← at-key .key .ensures,
+      ← at-key .before .moving2 .ensures,
+      ← at-key .before .before .moving .ensures,
+      byFirst,
+    )
 
 pub is-before-spec : {M : Type 1} → statement M
 is-before-spec =

@@ -33,12 +33,11 @@ mul-is-before c = omega arith
 array-copy-out-is-before : tie.Need-array-copy-out-is-before Inv-loop μ-loop
 array-copy-out-is-before c = omega arith
 
-is-before-requires : tie.Need-is-before-requires Inv-loop μ-loop
-is-before-requires c κs = search needs
-
 returns : tie.Need-returns Inv-loop μ-loop
-returns c = here _ _ (long (c .before .before .before .before .before)) _ _ _ (c .before .before .before .before .loop .inv .1)
-    (c .before .before .before .loop-test .taken) (sym (c .before .is-before .ensures) ∙ c .if1 .taken)
+returns c =
+    let at-loop-test : tie.In-loop Inv-loop μ-loop = search in
+    here _ _ (long (at-loop-test .before .before)) _ _ _ (omega arith)
+    (at-loop-test .loop-test .taken) (sym (c .before .is-before .ensures) ∙ c .if1 .taken)
 
 add-i : tie.Need-add-i Inv-loop μ-loop
 add-i c = omega arith
@@ -47,11 +46,12 @@ loop-less : tie.Need-loop-less Inv-loop μ-loop
 loop-less c = omega arith
 
 loop-again : tie.Need-loop-again Inv-loop μ-loop
-loop-again c = (
-  omega arith,
-  further _ _ (long (c .before .before .before .before .before)) _ _ _ (c .before .before .before .before .loop .inv .1)
-      (c .before .before .before .loop-test .taken) (sym (c .before .is-before .ensures) ∙ c .if1 .left),
-)
+loop-again c =
+    let at-loop-test : tie.In-loop Inv-loop μ-loop = search in (
+      omega arith,
+      further _ _ (long (at-loop-test .before .before)) _ _ _ (omega arith)
+          (at-loop-test .loop-test .taken) (sym (c .before .is-before .ensures) ∙ c .if1 .left),
+    )
 
 returns-2 : tie.Need-returns-2 Inv-loop μ-loop
 returns-2 c = last _ _ (long (c .before .before)) _ none _ (c .before .loop .inv .1) (c .loop-test .left)
@@ -65,7 +65,7 @@ place-of-spec =
     loop-holds
     mul-is-before
     array-copy-out-is-before
-    is-before-requires
+    (λ c κs. search needs)
     returns
     add-i
     loop-less

@@ -34,7 +34,7 @@ loop-again c =
       omega arith,
       omega arith,
       rw (c .one .ensures)
-          (counts _ _ (long (c .before .before .before .before)) _ none _ _ (c .before .before .before .loop .inv .2) (c .before .before .loop-test .taken)),
+          (counts _ _ (long (c .before .before .before .before)) _ none _ _ (omega arith) (omega arith)),
     )
 
 returns : tie.Need-returns Inv-loop μ-loop

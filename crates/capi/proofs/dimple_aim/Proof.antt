@@ -25,13 +25,9 @@ returns c = rw (ne-eqb _ _ (c .if1 .taken))
 
 returns-2 : tie.Need-returns-2
 returns-2 c =
-    let at-write = c .before .before in
-    let at-landing = at-write .before .before .before .before in
-    let at-aim = at-landing .before .before .before .before in
-    let at-test = at-aim .before .before .before .before in
-    let a = at-test .before .before .before .before .before .before .args in
-    aims (a .input .now) (a .contacts .now) (a .points .now) _ _ _ _ _ (a .result .now) (a .landing .now)
-    (at-test .if1 .left) (at-aim .aim-into .ensures) (at-write .write-result .ensures)
+    let a : tie.After-aim-into = search in
+    let e : tie.Else1 = search in
+    aims _ _ _ _ _ _ _ _ _ _ (e .if1 .left) (a .aim-into .ensures) (c .before .before .write-result .ensures)
 
 pub dimple-aim-spec : {M : Type 1} → statement M
 dimple-aim-spec =

@@ -24,16 +24,14 @@ returns c = rw (ne-eqb _ _ (c .if1 .taken))
 
 returns-2 : tie.Need-returns-2
 returns-2 c =
-    let at-if2 = c .before .before .before .before in
-    let at-if1 = at-if2 .before .before .before in
-    enters (at-if1 .before .before .args .board .now) _ (at-if1 .if1 .left) (sym (at-if2 .before .board-ok .ensures) ∙ at-if2 .if2 .taken)
-    (c .before .before .enter-sent .ensures)
+    let s = c .before .before in
+    let k : tie.Then2 = search in
+    let e : tie.Else1 = search in
+    enters _ _ (e .if1 .left) (sym (k .before .board-ok .ensures) ∙ k .if2 .taken) (s .enter-sent .ensures)
 
 returns-3 : tie.Need-returns-3
 unfolding enterDoorOf
-returns-3 c =
-    let at-if1 = c .before .before .before in
-    rw (eq-eqb _ _ (at-if1 .if1 .left), sym (c .before .board-ok .ensures) ∙ c .if2 .left)
+returns-3 c = let e : tie.Else1 = search in rw (eq-eqb _ _ (e .if1 .left), sym (c .before .board-ok .ensures) ∙ c .if2 .left)
 
 pub dimple-board-enter-spec : {M : Type 1} → statement M
 dimple-board-enter-spec =

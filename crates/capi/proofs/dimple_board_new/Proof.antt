@@ -12,8 +12,8 @@ returns c = rw (ne-eqb _ _ (c .if1 .taken))
 returns-2 : tie.Need-returns-2
 unfolding newDoorOf
 returns-2 c =
-    let at-new = c .before .before .before .before .before in
-    rw (eq-eqb _ _ (at-new .before .if1 .left), ← at-new .new .ensures, c .before .before .write-board .ensures)
+    let n : tie.After-new = search in
+    rw (eq-eqb _ _ (n .before .if1 .left), ← n .new .ensures, c .before .before .write-board .ensures)
 
 pub dimple-board-new-spec : {M : Type 1} → statement M
 dimple-board-new-spec =

@@ -33,20 +33,18 @@ returns-2 c = rw (eq-eqb _ _ (c .before .if1 .left), ne-eqb _ _ (c .if2 .taken))
 
 returns-3 : tie.Need-returns-3
 returns-3 c =
-    let at-whole = c .before .before .before .before .before in
-    let at-board-at = at-whole .before .before .before in
-    let at-if2 = at-board-at .before .before .before in
-    let at-start = at-if2 .before .before .before .before in
-    let a = at-start .args in
-    places (a .board .now) (a .place) (a .shot .now) (at-if2 .before .if1 .left) (at-if2 .if2 .left)
-    (sym (at-board-at .before .before .board-ok .ensures) ∙ at-board-at .before .if3 .taken) (at-board-at .board-at .ensures)
-    (at-whole .before .before .place .ensures) (at-whole .whole .ensures) (c .before .before .put .ensures)
+    let w : tie.After-whole = search in
+    let b : tie.After-board-at = search in
+    let k = b .before in
+    let e = k .before .before in
+    places _ _ _ (e .before .if1 .left) (e .if2 .left) (sym (k .before .board-ok .ensures) ∙ k .if3 .taken) (b .board-at .ensures)
+    (w .before .before .place .ensures) (w .whole .ensures) (c .before .before .put .ensures)
 
 returns-4 : tie.Need-returns-4
 unfolding placeDoorOf
 returns-4 c =
-    let at-if1 = c .before .before .before in
-    rw (eq-eqb _ _ (at-if1 .if1 .left), eq-eqb _ _ (c .before .before .if2 .left), sym (c .before .board-ok .ensures) ∙ c .if3 .left)
+    let e = c .before .before in
+    rw (eq-eqb _ _ (e .before .if1 .left), eq-eqb _ _ (e .if2 .left), sym (c .before .board-ok .ensures) ∙ c .if3 .left)
 
 pub dimple-board-place-spec : {M : Type 1} → statement M
 dimple-board-place-spec =

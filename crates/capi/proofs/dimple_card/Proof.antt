@@ -19,13 +19,8 @@ cards input c p l page e h = rw (h, ← e)
 
 returns : tie.Need-returns
 returns c =
-    let at-slice-known6 = c .before .before .before .before .before .before in
-    let at-card = at-slice-known6 .before .before .before .before in
-    let at-slice-known2 = at-card .before .before .before .before .before .before in
-    let at-start = at-slice-known2 .before .before .before in
-    let a = at-start .args in
-    cards (a .input .now) (a .contacts .now) (a .points .now) (a .result .now) (a .page .now) (at-card .card .ensures)
-    (c .before .before .write-result .ensures)
+    let k : tie.After-card = search in
+    cards _ _ _ _ _ (k .card .ensures) (c .before .before .write-result .ensures)
 
 pub dimple-card-spec : {M : Type 1} → statement M
 dimple-card-spec =

@@ -11,7 +11,9 @@ returns c = rw (ne-eqb _ _ (c .if1 .taken))
 
 returns-2 : tie.Need-returns-2
 unfolding heightDoorOf
-returns-2 c = rw (eq-eqb _ _ (c .before .before .before .before .before .before .if1 .left), ← c .before .before .before .before .before .height .ensures, c .before .before .put .ensures)
+returns-2 c =
+    let h : tie.After-height = search in
+    rw (eq-eqb _ _ (h .before .if1 .left), ← h .height .ensures, c .before .before .put .ensures)
 
 pub dimple-height-spec : {M : Type 1} → statement M
 dimple-height-spec =

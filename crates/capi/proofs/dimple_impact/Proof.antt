@@ -15,8 +15,8 @@ use Rattle.capi.specs.Doors.{Door, struck, impactDoorOf}
 use Rattle.capi.proofs.dimple_impact.Statement.{statement}
 use Rattle.capi.proofs.dimple_impact.Tie as tie
 
-makes : (sheet : List ℕ) (b l : List Float) {s : BallState} {m : BallModel} {r : ImpactOut} {d : Door} → length b ≡ 12 → length l ≡ 10 → s ≡ stateAt l 0 → m ≡ ballAt b 0
-    → r ≡ impactAnswer sheet m s → d ≡ struck r l → d ≡ impactDoorOf sheet b l
+makes : (sheet : List ℕ) (b l : List Float) {s : BallState} {m : BallModel} {r : ImpactOut} {d : Door} → length b ≡ 12 → length l ≡ 10
+    → s ≡ stateAt l 0 → m ≡ ballAt b 0 → r ≡ impactAnswer sheet m s → d ≡ struck r l → d ≡ impactDoorOf sheet b l
 unfolding impactDoorOf
 makes sheet b l h1 h2 x1 x2 x3 x4 = rw (eq-eqb _ _ h1, eq-eqb _ _ h2, ← x1, ← x2, ← x3) x4
 
@@ -30,8 +30,11 @@ returns-2 c = rw (eq-eqb _ _ (c .before .if1 .left), ne-eqb _ _ (c .if2 .taken))
 
 returns-3 : tie.Need-returns-3
 returns-3 c =
-    let a = c .before .before .before .before .before .before .before .before .before .before .before .before .before .args in
-    makes (a .sheet .now) (a .ball .now) (a .state .now) (c .before .before .before .before .before .before .before .before .before .if1 .left) (c .before .before .before .before .before .before .before .before .if2 .left) (c .before .before .before .before .before .before .state-at .ensures) (c .before .before .before .before .before .ball-at .ensures) (c .before .before .before .before .impact .ensures) (c .before .before .write-impact .ensures)
+    let i : tie.After-impact = search in
+    let s : tie.After-state-at = search in
+    let e : tie.Else2 = search in
+    makes _ _ _ (e .before .if1 .left) (e .if2 .left) (s .state-at .ensures) (i .before .ball-at .ensures) (i .impact .ensures)
+    (c .before .before .write-impact .ensures)
 
 pub dimple-impact-spec : {M : Type 1} → statement M
 dimple-impact-spec =

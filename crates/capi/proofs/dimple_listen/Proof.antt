@@ -26,15 +26,10 @@ returns c = rw (ne-eqb _ _ (c .if1 .taken))
 
 returns-2 : tie.Need-returns-2
 returns-2 c =
-    let at-put = c .before .before in
-    let at-whole3 = at-put .before .before .before in
-    let at-whole2 = at-whole3 .before in
-    let at-whole = at-whole2 .before in
-    let at-listen = at-whole .before .before .before in
-    let at-test = at-listen .before .before in
-    let a = at-test .before .before .before .before .before .args in
-    listens (a .heard .now) (a .contacts .now) _ _ (a .marks .now) (a .totals .now) (at-test .if1 .left) (at-listen .listen .ensures)
-    (at-whole .whole .ensures) (at-whole2 .whole2 .ensures) (at-whole3 .whole3 .ensures) (at-put .put .ensures)
+    let w : tie.After-whole3 = search in
+    let l : tie.After-listen = search in
+    listens _ _ _ _ _ _ (l .before .before .if1 .left) (l .listen .ensures) (w .before .before .whole .ensures) (w .before .whole2 .ensures)
+    (w .whole3 .ensures) (c .before .before .put .ensures)
 
 pub dimple-listen-spec : {M : Type 1} → statement M
 dimple-listen-spec =

@@ -7,8 +7,8 @@ use Rattle.capi.proofs.dimple_settle.Tie as tie
 
 returns : tie.Need-returns
 returns c =
-    let a = c .before .before .before .before .before .before .before .before .before .before .before .before .before .before .before .args in
-    settles false (a .input .now) (a .contacts .now) (a .points .now) (a .result .now) (c .before .before .before .before .before .before .before .before .settle-input .ensures) (c .before .before .write-result .ensures)
+    let s : tie.After-settle-input = search in
+    settles false _ _ _ _ (s .settle-input .ensures) (c .before .before .write-result .ensures)
 
 pub dimple-settle-spec : {M : Type 1} → statement M
 dimple-settle-spec =

@@ -7,8 +7,8 @@ use Rattle.capi.proofs.dimple_settle_fading.Tie as tie
 
 returns : tie.Need-returns
 returns c =
-    let a = c .before .before .before .before .before .before .before .before .before .before .before .before .before .before .before .args in
-    settles true (a .input .now) (a .contacts .now) (a .points .now) (a .result .now) (c .before .before .before .before .before .before .before .before .settle-input .ensures) (c .before .before .write-result .ensures)
+    let s : tie.After-settle-input = search in
+    settles true _ _ _ _ (s .settle-input .ensures) (c .before .before .write-result .ensures)
 
 pub dimple-settle-fading-spec : {M : Type 1} → statement M
 dimple-settle-fading-spec =

@@ -25,14 +25,10 @@ enters l s k x1 x2 x3 x4 = rw (k, ← x1, ← x2, ← x3) x4
 returns : tie.Need-returns
 unfolding isEnd
 returns c =
-    let at-enter = c .before .before .before in
-    let at-board-at = at-enter .before .before .before in
-    let at-start = at-board-at .before .before .before .before in
-    let a = at-start .args in
-    enters (a .board .now) (record { bay = a .bay; shot = a .shot; termination = a .termination; contacts = a .contacts; x = a .x; z = a .z })
-    (at-board-at .before .before .if1 .taken)
-    (at-board-at .board-at .ensures)
-    (at-enter .before .before .termination-of .ensures) (at-enter .enter .ensures) (c .before .before .write-entered .ensures)
+    let e : tie.After-enter = search in
+    let b : tie.After-board-at = search in
+    enters _ _ (b .before .before .if1 .taken) (b .board-at .ensures) (e .before .before .termination-of .ensures) (e .enter .ensures)
+    (c .before .before .write-entered .ensures)
 
 returns-2 : tie.Need-returns-2
 unfolding sentOf isEnd entered

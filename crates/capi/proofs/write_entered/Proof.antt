@@ -11,7 +11,7 @@ returns c = rw (ne-eqb _ _ (c .if1 .taken))
 
 returns-2 : tie.Need-returns-2
 unfolding entered
-returns-2 c = rw (eq-eqb _ _ (c .before .before .before .before .before .if1 .left), c .before .before .write-board .ensures)
+returns-2 c = let e : tie.Else1 = search in rw (eq-eqb _ _ (e .if1 .left), c .before .before .write-board .ensures)
 
 pub write-entered-spec : {M : Type 1} → statement M
 write-entered-spec =

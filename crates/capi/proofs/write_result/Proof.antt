@@ -12,21 +12,20 @@ returns c = rw (lt-leb 20 _ (c .if1 .taken))
 returns-2 : tie.Need-returns-2
 unfolding reported
 returns-2 c =
-    let at-whole6 = c .before .before .before .before .before in
-    let at-whole5 = at-whole6 .before in
-    let at-whole2 = at-whole5 .before .before .before in
-    let at-whole = at-whole2 .before .before in
-    let at-if1 = at-whole .before .before .before .before .before .before .before in
+    let w6 : tie.After-whole6 = search in
+    let w3 : tie.After-whole3 = search in
+    let w1 : tie.After-whole = search in
+    let e : tie.Else1 = search in
     rw (
-      le-leb 20 _ (at-if1 .if1 .left),
+      le-leb 20 _ (e .if1 .left),
       c .before .before .put .ensures,
-      at-whole .whole .ensures,
-      at-whole2 .whole2 .ensures,
-      at-whole2 .before .termination-number .ensures,
-      at-whole5 .before .before .whole3 .ensures,
-      at-whole5 .before .whole4 .ensures,
-      at-whole5 .whole5 .ensures,
-      at-whole6 .whole6 .ensures,
+      w1 .whole .ensures,
+      w3 .before .whole2 .ensures,
+      w3 .before .before .termination-number .ensures,
+      w3 .whole3 .ensures,
+      w6 .before .before .whole4 .ensures,
+      w6 .before .whole5 .ensures,
+      w6 .whole6 .ensures,
     )
 
 pub write-result-spec : {M : Type 1} → statement M

@@ -8,11 +8,14 @@ use Rattle.capi.proofs.write_step.Tie as tie
 
 returns : tie.Need-returns
 unfolding stepped ofBits round
-returns c = rw (ne-eqb _ _ (c .before .before .before .before .before .if1 .taken), c .before .before .put .ensures)
+returns c = let t : tie.Then1 = search in rw (ne-eqb _ _ (t .if1 .taken), c .before .before .put .ensures)
 
 returns-2 : tie.Need-returns-2
 unfolding stepped
-returns-2 c = rw (eq-eqb _ _ (c .before .before .before .before .before .before .before .before .before .before .before .if1 .left), c .before .before .put2 .ensures, c .before .before .before .before .before .whole .ensures)
+returns-2 c =
+    let w : tie.After-whole = search in
+    let e : tie.Else1 = search in
+    rw (eq-eqb _ _ (e .if1 .left), c .before .before .put2 .ensures, w .whole .ensures)
 
 pub write-step-spec : {M : Type 1} → statement M
 write-step-spec =

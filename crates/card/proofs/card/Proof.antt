@@ -1,4 +1,5 @@
 -- `card` makes the run, and prints one that finished on a page that is long enough.
+use Prim.Native.Nat.{_≤_}
 use native.Mathlib.Omega.{arith}
 use borrow.Author.Needs.{needs}
 use Rattle.text.specs.Laws.{next}
@@ -6,69 +7,37 @@ use Rattle.card.proofs.Made.{unfinished, few, spots, short, printed}
 use Rattle.card.proofs.card.Statement.{statement}
 use Rattle.card.proofs.card.Tie as tie
 
+-- the run that was made, and finished
+abbrev run : tie.Else1 → tie.After-settle-input
+run c = c .before .before .before .before .before .before
+
+few-there : (c : tie.Else1) → run c .settle-input .result .contacts ≤ 64
+few-there c = few _ _ _ (run c .settle-input .ensures) (c .if1 .left)
+
 returns : tie.Need-returns
-returns c =
-    let at-settle-input = c .before .before .before .before .before .before in
-    let at-shared-slice-known = at-settle-input .before .before .before .before .before .before in
-    let at-start = at-shared-slice-known .before in
-    let a = at-start .args in
-    unfinished (a .input .now) (a .contacts .now) (a .points .now) (a .page .now) (at-settle-input .settle-input .ensures) (c .if1 .taken)
-
-add-if2 : tie.Need-add-if2
-add-if2 c =
-    let at-settle-input = c .before .before .before .before .before .before in
-    let at-shared-slice-known = at-settle-input .before .before .before .before .before .before in
-    let at-start = at-shared-slice-known .before in
-    let a = at-start .args in
-    let k = few (a .input .now) (a .contacts .now) (a .points .now) (a .page .now) (at-settle-input .settle-input .ensures) (c .if1 .left) in
-    omega (arith, k)
-
-mul-if2 : tie.Need-mul-if2
-mul-if2 c =
-    let at-settle-input = c .before .before .before .before .before .before in
-    let at-shared-slice-known = at-settle-input .before .before .before .before .before .before in
-    let at-start = at-shared-slice-known .before in
-    let a = at-start .args in
-    let k = few (a .input .now) (a .contacts .now) (a .points .now) (a .page .now) (at-settle-input .settle-input .ensures) (c .if1 .left) in
-    omega (arith, k)
+returns c = let r : tie.After-settle-input = search in unfinished _ _ _ (r .settle-input .ensures) _ (c .if1 .taken)
 
 returns-2 : tie.Need-returns-2
 returns-2 c =
-    let at-slice-known4 = c .before .before .before .before .before .before in
-    let at-settle-input = at-slice-known4 .before .before in
-    let at-shared-slice-known = at-settle-input .before .before .before .before .before .before in
-    let at-start = at-shared-slice-known .before in
-    let a = at-start .args in
-    short (a .input .now) (a .contacts .now) (a .points .now) (a .page .now) (at-settle-input .settle-input .ensures) (c .before .before .if1 .left)
-    (c .before .if2 .taken) (c .page-too-short .ensures)
+    let e = c .before .before in
+    short _ _ _ (run e .settle-input .ensures) _ (e .if1 .left) (c .before .if2 .taken) (c .page-too-short .ensures)
 
 put-contacts-requires : tie.Need-put-contacts-requires
 put-contacts-requires c κs =
-    let at-put-heading = c .before .before .before .before in
-    let at-if1 = at-put-heading .before .before .before in
-    let at-settle-input = at-if1 .before .before .before .before .before .before in
-    let at-shared-slice-known = at-settle-input .before .before .before .before .before .before in
-    let at-start = at-shared-slice-known .before in
-    let a = at-start .args in
-    let l = at-put-heading .before .before .if2 .left in
-    let n = next (at-put-heading .put-heading .ensures) in
-    let m = at-put-heading .put-heading .ensures .adds .long in (
-      omega (arith, l, n, m),
-      spots (a .input .now) (a .contacts .now) (a .points .now) (a .page .now) (at-settle-input .settle-input .ensures)
-          (at-if1 .if1 .left),
+    let h : tie.After-put-heading = search in
+    let l = h .before .before in
+    let e = l .before in (
+      omega (arith, l .if2 .left, next (h .put-heading .ensures), h .put-heading .ensures .adds .long),
+      spots _ _ _ (run e .settle-input .ensures) (e .if1 .left),
     )
 
 returns-3 : tie.Need-returns-3
 returns-3 c =
-    let at-page = c .before .before .before .before .before .before in
-    let at-put-heading = at-page .before in
-    let at-if1 = at-put-heading .before .before .before in
-    let at-settle-input = at-if1 .before .before .before .before .before .before in
-    let at-shared-slice-known = at-settle-input .before .before .before .before .before .before in
-    let at-start = at-shared-slice-known .before in
-    let a = at-start .args in
-    printed (a .input .now) (a .contacts .now) (a .points .now) (a .page .now) (at-settle-input .settle-input .ensures) (at-if1 .if1 .left)
-    (at-put-heading .before .before .if2 .left) (at-put-heading .put-heading .ensures) (c .before .before .put-contacts .ensures)
+    let p = c .before .before in
+    let h : tie.After-put-heading = search in
+    let l = h .before .before in
+    let e = l .before in
+    printed _ _ _ (run e .settle-input .ensures) _ (e .if1 .left) (l .if2 .left) (h .put-heading .ensures) (p .put-contacts .ensures)
 
 pub card-spec : {M : Type 1} → statement M
 card-spec =
@@ -78,8 +47,8 @@ card-spec =
     (λ c. search needs)
     (λ c. search needs)
     returns
-    add-if2
-    mul-if2
+    (λ c. let k = few-there c in omega arith)
+    (λ c. let k = few-there c in omega arith)
     (λ c κs. search needs)
     (λ c. search needs)
     (λ c. search needs)

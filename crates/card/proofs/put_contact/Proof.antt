@@ -8,47 +8,46 @@ use Rattle.card.proofs.Written.{contact-put}
 use Rattle.card.proofs.put_contact.Statement.{statement}
 use Rattle.card.proofs.put_contact.Tie as tie
 
+-- ---- the places on the way, each from a later one
+
+abbrev start : tie.After-put-signed-right → tie.Start
+start c = c .before .before .before .before
+
+abbrev number : tie.After-put-value → tie.After-put-signed-right
+number c = c .before .before .before .before .before
+
+abbrev time : tie.After-put-place → tie.After-put-value
+time c = c .before .before .before .before
+
+-- ---- the answers
+
 put-signed-right-requires : tie.Need-put-signed-right-requires
 unfolding signedOf
-put-signed-right-requires c κs =
-    let at-start = c .before .before .before in
-    (omega arith, number-fits _ (at-start .pre .1 .number))
+put-signed-right-requires c κs = let s : tie.Start = search in (omega arith, number-fits _ (s .pre .1 .number))
 
 put-value-requires : tie.Need-put-value-requires
 put-value-requires c κs =
-    let at-put-signed-right = c .before .before .before .before in
-    let at-start = at-put-signed-right .before .before .before .before in
-    (omega (arith, next (at-put-signed-right .put-signed-right .ensures)), time-fits _ (at-start .pre .1 .time))
+    let n : tie.After-put-signed-right = search in
+    (omega (arith, next (n .put-signed-right .ensures)), time-fits _ (start n .pre .1 .time))
 
 put-place-requires : tie.Need-put-place-requires
 put-place-requires c κs =
-    let at-put-value = c .before .before .before in
-    let at-put-signed-right = at-put-value .before .before .before .before .before in
-    let at-start = at-put-signed-right .before .before .before .before in
-    (omega (arith, next (at-put-signed-right .put-signed-right .ensures), next (at-put-value .put-value .ensures)), at-start .pre .1 .place)
+    let t : tie.After-put-value = search in
+    let n = number t in
+    (omega (arith, next (n .put-signed-right .ensures), next (t .put-value .ensures)), start n .pre .1 .place)
 
 put-requires : tie.Need-put-requires
 put-requires c κs =
-    let at-put-place = c .before .before .before .before in
-    let at-put-value = at-put-place .before .before .before .before in
-    let at-put-signed-right = at-put-value .before .before .before .before .before in
-    omega (
-      arith,
-      next (at-put-signed-right .put-signed-right .ensures),
-      next (at-put-value .put-value .ensures),
-      next
-          (at-put-place .put-place .ensures),
-    )
+    let p : tie.After-put-place = search in
+    let t = time p in
+    omega (arith, next (number t .put-signed-right .ensures), next (t .put-value .ensures), next (p .put-place .ensures))
 
 returns : tie.Need-returns
 returns c =
-    let at-page3 = c .before .before .before .before .before .before in
-    let at-put-place = at-page3 .before in
-    let at-put-value = at-put-place .before .before .before .before in
-    let at-put-signed-right = at-put-value .before .before .before .before .before in
-    let at-start = at-put-signed-right .before .before .before .before in
-    contact-put _ (at-start .args .i) (at-put-signed-right .put-signed-right .ensures) (at-put-value .put-value .ensures)
-    (at-put-place .put-place .ensures) (c .before .before .put .ensures)
+    let w = c .before .before in
+    let p : tie.After-put-place = search in
+    let t = time p in
+    contact-put _ _ (number t .put-signed-right .ensures) (t .put-value .ensures) (p .put-place .ensures) (w .put .ensures)
 
 pub put-contact-spec : {M : Type 1} → statement M
 put-contact-spec =

@@ -20,12 +20,11 @@ loop-holds c = (lines-none _ _ _ (omega arith), omega arith)
 
 put-contact-requires : tie.Need-put-contact-requires Inv-loop μ-loop
 put-contact-requires c κs =
-    let l = c .before .before .loop in
-    let a = c .before .before .before .before .before in
-    let x = next (l .inv .0) in
-    let y = l .inv .0 .adds .long in
-    let t = c .before .loop-test .taken in
-    (omega arith, a .pre .1 (l .i) t)
+    let t = c .before in
+    let i = t .before in
+    let x = next (i .loop .inv .0) in
+    let y = i .loop .inv .0 .adds .long in
+    (omega arith, i .before .before .before .pre .1 (i .loop .i) (t .loop-test .taken))
 
 add-i : tie.Need-add-i Inv-loop μ-loop
 add-i c = omega arith
@@ -35,17 +34,18 @@ loop-less c = omega arith
 
 loop-again : tie.Need-loop-again Inv-loop μ-loop
 loop-again c =
-    let l = c .before .before .before .before .before .loop in
-    (lines-more _ (l .i) (l .inv .0) (c .before .before .put-contact .ensures), omega arith)
+    let p = c .before .before in
+    let l = p .before .before .before .loop in
+    (lines-more _ (l .i) (l .inv .0) (p .put-contact .ensures), omega arith)
 
 same-length : tie.Need-same-length Inv-loop μ-loop
 same-length c = c .before .loop .inv .0 .adds .long
 
 returns : tie.Need-returns Inv-loop μ-loop
 returns c =
-    let l = c .before .loop in
-    let e : l .i ≡ c .before .before .before .before .args .n = omega arith in
-    rw e at (l .inv .0)
+    let i = c .before in
+    let e : i .loop .i ≡ i .before .before .before .args .n = omega arith in
+    rw e at (i .loop .inv .0)
 
 pub put-contacts-spec : {M : Type 1} → statement M
 put-contacts-spec =

@@ -6,12 +6,10 @@ use Rattle.card.proofs.put_heading.Tie as tie
 
 returns : tie.Need-returns
 returns c =
-    let at-page2 = c .before .before .before .before .before .before in
-    let at-put-blanks = at-page2 .before in
-    let at-put-termination = at-put-blanks .before .before .before .before in
-    let at-start = at-put-termination .before .before .before in
-    heading-put (at-start .args .t) (at-put-termination .put-termination .ensures) (at-put-blanks .put-blanks .ensures)
-    (c .before .before .put .ensures)
+    let p : tie.After-put = search in
+    let b : tie.After-put-blanks = search in
+    let t : tie.After-put-termination = search in
+    heading-put _ (t .put-termination .ensures) (b .put-blanks .ensures) (p .put .ensures)
 
 pub put-heading-spec : {M : Type 1} → statement M
 put-heading-spec =

@@ -7,31 +7,35 @@ use Rattle.card.proofs.Written.{place-put}
 use Rattle.card.proofs.put_place.Statement.{statement}
 use Rattle.card.proofs.put_place.Tie as tie
 
+-- ---- the places on the way, each from a later one
+
+abbrev start : tie.After-put-value → tie.Start
+start c = c .before .before .before .before .before
+
+abbrev first : tie.After-put-value2 → tie.After-put-value
+first c = c .before .before .before .before .before
+
+-- ---- the answers
+
 put-value-requires : tie.Need-put-value-requires
-put-value-requires c κs =
-    let at-start = c .before .before .before .before in
-    (omega arith, place-fits _ (at-start .pre .1 .x))
+put-value-requires c κs = let s : tie.Start = search in (omega arith, place-fits _ (s .pre .1 .x))
 
 put-value-requires-2 : tie.Need-put-value-requires-2
 put-value-requires-2 c κs =
-    let at-put-value = c .before .before .before .before in
-    let at-start = at-put-value .before .before .before .before .before in
-    (omega (arith, next (at-put-value .put-value .ensures)), place-fits _ (at-start .pre .1 .y))
+    let v : tie.After-put-value = search in
+    (omega (arith, next (v .put-value .ensures)), place-fits _ (start v .pre .1 .y))
 
 put-value-requires-3 : tie.Need-put-value-requires-3
 put-value-requires-3 c κs =
-    let at-put-value2 = c .before .before .before .before in
-    let at-put-value = at-put-value2 .before .before .before .before .before in
-    let at-start = at-put-value .before .before .before .before .before in
-    (omega (arith, next (at-put-value .put-value .ensures), next (at-put-value2 .put-value2 .ensures)), place-fits _ (at-start .pre .1 .z))
+    let w : tie.After-put-value2 = search in
+    let v = first w in
+    (omega (arith, next (v .put-value .ensures), next (w .put-value2 .ensures)), place-fits _ (start v .pre .1 .z))
 
 returns : tie.Need-returns
 returns c =
-    let at-page2 = c .before .before .before .before .before .before in
-    let at-put-value2 = at-page2 .before in
-    let at-put-value = at-put-value2 .before .before .before .before .before in
-    let at-start = at-put-value .before .before .before .before .before in
-    place-put _ (at-start .args .o) (at-put-value .put-value .ensures) (at-put-value2 .put-value2 .ensures) (c .before .before .put-value3 .ensures)
+    let x = c .before .before in
+    let w : tie.After-put-value2 = search in
+    place-put _ _ (first w .put-value .ensures) (w .put-value2 .ensures) (x .put-value3 .ensures)
 
 pub put-place-spec : {M : Type 1} → statement M
 put-place-spec =

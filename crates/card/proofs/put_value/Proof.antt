@@ -2,7 +2,6 @@
 use Prim.Native.Nat.{_≤_}
 use native.Mathlib.Omega.{arith}
 use mathlib.Core.Path.{sym, subst}
-use mathlib.Core.List.{List}
 use lib.ListN.{length}
 use borrow.Author.Needs.{needs}
 use Rattle.card.proofs.Written.{value-is, value-put}
@@ -11,13 +10,13 @@ use Rattle.card.proofs.put_value.Tie as tie
 
 put-signed-right-requires : tie.Need-put-signed-right-requires
 put-signed-right-requires c κs =
-    let s = c .before .before .before in
+    let s : tie.Start = search in
     (omega arith, subst (λ t. length t ≤ s .args .w) (sym (value-is (s .args .k) (s .args .x) (c .before .rounded .ensures))) (s .pre .1 .fits))
 
 returns : tie.Need-returns
 returns c =
-    let a = c .before .before .before .before .before .before .args in
-    value-put (a .k) (a .x) (c .before .before .before .before .rounded .ensures) (c .before .before .put-signed-right .ensures)
+    let p = c .before .before in
+    value-put _ _ (p .before .before .rounded .ensures) (p .put-signed-right .ensures)
 
 pub put-value-spec : {M : Type 1} → statement M
 put-value-spec =

@@ -6,7 +6,16 @@ use Rattle.contact.proofs.relock.Tie as tie
 
 returns : tie.Need-returns
 unfolding relocked
-returns c = simp (← c .before .before .before .before .before .normalize .ensures, ← c .before .before .before .before .dot .ensures, ← c .before .before .before .cross .ensures, ← c .before .before .div .ensures, ← c .before .scale .ensures, ← c .add .ensures)
+returns c =
+    let at-cross : tie.After-cross = search in
+    simp (
+      ← at-cross .before .before .normalize .ensures,
+      ← at-cross .before .dot .ensures,
+      ← at-cross .cross .ensures,
+      ← c .before .before .div .ensures,
+      ← c .before .scale .ensures,
+      ← c .add .ensures,
+    )
 
 pub relock-spec : {M : Type 1} → statement M
 relock-spec = tie.close (tie.spec (λ c κs. tt) (λ c κs. tt) (λ c κs. tt) (λ c κs. tt) (λ c κs. tt) (λ c κs. tt) returns)

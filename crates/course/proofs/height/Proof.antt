@@ -13,13 +13,13 @@ returns c = simp (← c0, ← c .before .check-sheet .ensures, ne-eqb _ _ (c .if
 
 scanned-height-requires : tie.Need-scanned-height-requires
 scanned-height-requires c κs =
-    let at-check-sheet = c .before .before .before in
+    let at-check-sheet : tie.After-check-sheet = search in
     sym (at-check-sheet .check-sheet .ensures) ∙ c .before .before .if1 .left
 
 returns-2 : tie.Need-returns-2
 unfolding heightOf
 returns-2 c =
-    let at-if1 = c .before .before .before in
+    let at-if1 : tie.Else1 = search in
     simp (
       ← c0,
       ← at-if1 .before .check-sheet .ensures,
@@ -32,7 +32,7 @@ returns-2 c =
 returns-3 : tie.Need-returns-3
 unfolding heightOf
 returns-3 c =
-    let at-check-sheet = c .before .before .before in
+    let at-check-sheet : tie.After-check-sheet = search in
     simp (← c0, ← at-check-sheet .check-sheet .ensures, eq-eqb _ _ (c .before .before .if1 .left), ← c .before .spot-ok .ensures, c .if2 .left)
 
 pub height-spec : {M : Type 1} → statement M

@@ -27,7 +27,7 @@ patch-height-requires c κs =
 returns : tie.Need-returns
 unfolding courseOf
 returns c =
-    let at-start = c .before .before .before in
+    let at-start : tie.Start = search in
     simp (← at-start .pre .0 .1 .0, ← at-start .pre .0 .1 .1, ← at-start .pre .1, lt-ltb _ _ (c .before .if1 .taken), ← c .patch-height .ensures)
 
 returns-2 : tie.Need-returns-2

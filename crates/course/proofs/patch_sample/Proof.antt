@@ -9,7 +9,7 @@ use Rattle.course.proofs.patch_sample.Tie as tie
 returns : tie.Need-returns
 unfolding patchSample
 returns c =
-    let at-surface-at = c .before .before .before in
+    let at-surface-at : tie.After-surface-at = search in
     simp (
       ← c1,
       ← at-surface-at .before .whole .ensures,
@@ -27,17 +27,17 @@ surface-at-requires c κs = rw (c .whole .ensures) (c .before .before .pre .0 .1
 
 number-at-requires : tie.Need-number-at-requires
 number-at-requires c κs =
-    let at-start = c .before .before .before in
+    let at-start : tie.Start = search in
     (at-start .pre .0 .0, (omega arith, patch-5 _ _ (at-start .pre .1 .0)))
 
 number-at-requires-2 : tie.Need-number-at-requires-2
 number-at-requires-2 c κs =
-    let at-start = c .before .before .before .before in
+    let at-start : tie.Start = search in
     (at-start .pre .0 .0, (omega arith, patch-6 _ _ (at-start .pre .1 .0)))
 
 number-at-requires-3 : tie.Need-number-at-requires-3
 number-at-requires-3 c κs =
-    let at-start = c .before .before .before .before .before in
+    let at-start : tie.Start = search in
     (at-start .pre .0 .0, (omega arith, patch-4 _ _ (at-start .pre .1 .0)))
 
 pub patch-sample-spec : {M : Type 1} → statement M

@@ -33,13 +33,13 @@ plain-sample-requires c κs = let h = accepted (c .before .before .args .sheet .
 returns : tie.Need-returns
 unfolding courseOf
 returns c =
-    let at-start = c .before .before .before in
+    let at-start : tie.Start = search in
     simp (← at-start .pre .0 .1 .0, ← at-start .pre .0 .1 .1, ← at-start .pre .1, lt-ltb _ _ (c .before .if1 .taken), ← c .patch-sample .ensures)
 
 returns-2 : tie.Need-returns-2
 unfolding courseOf
 returns-2 c =
-    let at-start = c .before .before .before in
+    let at-start : tie.Start = search in
     simp (← at-start .pre .0 .1 .0, ← at-start .pre .0 .1 .1, ← at-start .pre .1, le-ltb _ _ (c .before .if1 .left), ← c .plain-sample .ensures)
 
 pub sample-of-spec : {M : Type 1} → statement M

@@ -13,12 +13,12 @@ half-requires-2 c κs = let h = accepted (c .before .before .args .sheet .now) (
 
 find-patch-requires : tie.Need-find-patch-requires
 find-patch-requires c κs =
-    let at-start = c .before .before .before in
+    let at-start : tie.Start = search in
     (at-start .pre, (c .before .half .ensures, c .half2 .ensures))
 
 height-of-requires : tie.Need-height-of-requires
 height-of-requires c κs =
-    let at-start = c .before .before .before .before in
+    let at-start : tie.Start = search in
     ((at-start .pre, (c .before .before .half .ensures, c .before .half2 .ensures)), c .find-patch .ensures)
 
 pub scanned-height-spec : {M : Type 1} → statement M

@@ -9,9 +9,9 @@ use Rattle.course.proofs.surface_at.Tie as tie
 returns : tie.Need-returns
 unfolding surfaceOf
 returns c =
-    let at-number-at = c .before .before .before in
-    let at-whole2 = at-number-at .before .before .before in
-    let at-whole = at-whole2 .before .before .before in
+    let at-number-at : tie.After-number-at = search in
+    let at-whole2 : tie.After-whole2 = search in
+    let at-whole : tie.After-whole = search in
     simp (
       ← at-whole .whole .ensures,
       ← at-whole2 .before .before .double .ensures,
@@ -27,26 +27,26 @@ returns c =
 
 number-at-requires : tie.Need-number-at-requires
 number-at-requires c κs =
-    let at-shared-slice-known = c .before .before .before .before .before .before in
+    let at-shared-slice-known : tie.After-shared-slice-known = search in
     let at-start = at-shared-slice-known .before in
     (at-start .pre .0, (omega arith, surface-2 _ _ (at-start .pre .1)))
 
 number-at-requires-2 : tie.Need-number-at-requires-2
 number-at-requires-2 c κs =
-    let at-whole = c .before .before .before .before .before .before in
-    let at-start = at-whole .before .before in
+    let at-whole : tie.After-whole = search in
+    let at-start : tie.Start = search in
     (at-start .pre .0, (omega arith, surface-3 _ _ (at-start .pre .1)))
 
 number-at-requires-3 : tie.Need-number-at-requires-3
 number-at-requires-3 c κs =
-    let at-double = c .before .before .before .before .before .before in
-    let at-start = at-double .before .before .before in
+    let at-double : tie.After-double = search in
+    let at-start : tie.Start = search in
     (at-start .pre .0, (omega arith, surface-6 _ _ (at-start .pre .1)))
 
 number-at-requires-4 : tie.Need-number-at-requires-4
 number-at-requires-4 c κs =
-    let at-restitution-of = c .before .before .before .before .before .before in
-    let at-start = at-restitution-of .before .before .before .before in
+    let at-restitution-of : tie.After-restitution-of = search in
+    let at-start : tie.Start = search in
     (at-start .pre .0, (omega arith, surface-7 _ _ (at-start .pre .1)))
 
 first-whole : tie.Need-whole-requires
@@ -57,12 +57,12 @@ first-double c κs = (c .before .before .pre .0, omega arith)
 
 second-whole : tie.Need-whole-requires-2
 second-whole c κs =
-    let at-start = c .before .before .before .before in
+    let at-start : tie.Start = search in
     (at-start .pre .0, omega arith)
 
 second-double : tie.Need-double-requires-2
 second-double c κs =
-    let at-start = c .before .before .before .before .before in
+    let at-start : tie.Start = search in
     (at-start .pre .0, omega arith)
 
 pub surface-at-spec : {M : Type 1} → statement M

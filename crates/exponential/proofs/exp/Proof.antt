@@ -22,11 +22,13 @@ zero-is : ofBits binary64 0 ≡ fin false 0 (lib.IntN.pos 0)
 unfolding ofBits
 zero-is = refl
 
-total : (c : lts.Else3 (series-reads.Asked, series-reads.Learnt, power-at-reads.Asked, power-at-reads.Learnt) reads.Pre reads.Post) → Sum (shifted (c .before .before .before .args .x))
+total : (c : lts.Else3 (series-reads.Asked, series-reads.Learnt, power-at-reads.Asked, power-at-reads.Learnt) reads.Pre reads.Post)
+    → Sum (shifted (c .before .before .before .args .x))
 unfolding ofBits round
 total c = sum-of _ (c .before .before .if1 .left) (c .before .if2 .left) (c .if3 .left)
 
-at : (c : lts.Else3 (series-reads.Asked, series-reads.Learnt, power-at-reads.Asked, power-at-reads.Learnt) reads.Pre reads.Post) → Index (shifted (c .before .before .before .args .x))
+at : (c : lts.Else3 (series-reads.Asked, series-reads.Learnt, power-at-reads.Asked, power-at-reads.Learnt) reads.Pre reads.Post)
+    → Index (shifted (c .before .before .before .args .x))
 at c = index _ (add-fits binary64 (mul binary64 (c .before .before .before .args .x) log2e) shiftBy) (total c)
 
 returns : tie.Need-returns

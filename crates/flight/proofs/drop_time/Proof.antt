@@ -11,11 +11,15 @@ returns c = simp (c .if1 .taken)
 
 returns-2 : tie.Need-returns-2
 unfolding dropTime ofBits round
-returns-2 c = simp (← c .before .before .max .ensures, ← c .before .root .ensures, c .if2 .taken, c .before .before .before .if1 .left)
+returns-2 c =
+    let at-if1 : tie.Else1 = search in
+    simp (← c .before .before .max .ensures, ← c .before .root .ensures, c .if2 .taken, at-if1 .if1 .left)
 
 returns-3 : tie.Need-returns-3
 unfolding dropTime ofBits round
-returns-3 c = simp (← c .before .before .max .ensures, ← c .before .root .ensures, c .if2 .left, c .before .before .before .if1 .left)
+returns-3 c =
+    let at-if1 : tie.Else1 = search in
+    simp (← c .before .before .max .ensures, ← c .before .root .ensures, c .if2 .left, at-if1 .if1 .left)
 
 pub drop-time-spec : {M : Type 1} → statement M
 drop-time-spec = tie.close (tie.spec returns (λ c κs. tt) (λ c κs. tt) returns-2 returns-3)

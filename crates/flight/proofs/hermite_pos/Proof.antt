@@ -7,7 +7,16 @@ use Rattle.flight.proofs.hermite_pos.Tie as tie
 
 returns : tie.Need-returns
 unfolding hermitePos ofBits round
-returns c = simp (← c .before .before .before .before .before .scale .ensures, ← c .before .before .before .before .add .ensures, ← c .before .before .before .scale2 .ensures, ← c .before .before .add2 .ensures, ← c .before .scale3 .ensures, ← c .add3 .ensures)
+returns c =
+    let at-scale2 : tie.After-scale2 = search in
+    simp (
+      ← at-scale2 .before .before .scale .ensures,
+      ← at-scale2 .before .add .ensures,
+      ← at-scale2 .scale2 .ensures,
+      ← c .before .before .add2 .ensures,
+      ← c .before .scale3 .ensures,
+      ← c .add3 .ensures,
+    )
 
 pub hermite-pos-spec : {M : Type 1} → statement M
 hermite-pos-spec = tie.close (tie.spec (λ c κs. tt) (λ c κs. tt) (λ c κs. tt) (λ c κs. tt) (λ c κs. tt) (λ c κs. tt) returns)

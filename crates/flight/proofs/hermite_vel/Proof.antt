@@ -7,7 +7,15 @@ use Rattle.flight.proofs.hermite_vel.Tie as tie
 
 returns : tie.Need-returns
 unfolding hermiteVel ofBits round
-returns c = simp (← c .before .before .before .before .scale .ensures, ← c .before .before .before .scale2 .ensures, ← c .before .before .add .ensures, ← c .before .scale3 .ensures, ← c .add2 .ensures)
+returns c =
+    let at-scale2 : tie.After-scale2 = search in
+    simp (
+      ← at-scale2 .before .scale .ensures,
+      ← at-scale2 .scale2 .ensures,
+      ← c .before .before .add .ensures,
+      ← c .before .scale3 .ensures,
+      ← c .add2 .ensures,
+    )
 
 pub hermite-vel-spec : {M : Type 1} → statement M
 hermite-vel-spec = tie.close (tie.spec (λ c κs. tt) (λ c κs. tt) (λ c κs. tt) (λ c κs. tt) (λ c κs. tt) returns)

@@ -7,7 +7,21 @@ use Rattle.flight.proofs.step.Tie as tie
 
 returns : tie.Need-returns
 unfolding stepOf moved weighted ofBits round
-returns c = simp (← c .before .before .before .before .before .before .before .before .accel .ensures, ← c .before .before .before .before .before .before .before .move-by .ensures, ← c .before .before .before .before .before .before .accel2 .ensures, ← c .before .before .before .before .before .move-by2 .ensures, ← c .before .before .before .before .accel3 .ensures, ← c .before .before .before .move-by3 .ensures, ← c .before .before .accel4 .ensures, ← c .before .weigh .ensures, ← c .weigh2 .ensures)
+returns c =
+    let at-move-by3 : tie.After-move-by3 = search in
+    let at-accel2 : tie.After-accel2 = search in
+    simp (
+      ← at-accel2 .before .before .accel .ensures,
+      ← at-accel2 .before .move-by .ensures,
+      ← at-accel2 .accel2 .ensures,
+      ← at-move-by3 .before .before .move-by2 .ensures,
+      ← at-move-by3 .before .accel3 .ensures,
+      ← at-move-by3 .move-by3 .ensures,
+      ← c .before .before .accel4 .ensures,
+      ← c .before .weigh .ensures,
+      ← c .weigh2 .ensures,
+    )
 
 pub step-spec : {M : Type 1} → statement M
-step-spec = tie.close (tie.spec (λ c κs. tt) (λ c κs. tt) (λ c κs. tt) (λ c κs. tt) (λ c κs. tt) (λ c κs. tt) (λ c κs. tt) (λ c κs. tt) (λ c κs. tt) returns)
+step-spec = tie.close (tie.spec (λ c κs. tt) (λ c κs. tt) (λ c κs. tt) (λ c κs. tt) (λ c κs. tt) (λ c κs. tt) (λ c κs. tt) (λ c κs. tt)
+    (λ c κs. tt) returns)

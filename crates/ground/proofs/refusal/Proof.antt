@@ -14,11 +14,16 @@ returns-2 c = rw (eq-eqb _ _ (c .before .if1 .left), ne-eqb _ _ (c .if2 .taken))
 
 returns-3 : tie.Need-returns-3
 unfolding refusalOf wholes
-returns-3 c = rw (eq-eqb _ _ (c .before .before .before .if1 .left), eq-eqb _ _ (c .before .before .if2 .left), ← c .before .check-sheet .ensures, ne-eqb _ _ (c .if3 .taken))
+returns-3 c =
+    let p = c .before .before in
+    rw (eq-eqb _ _ (p .before .if1 .left), eq-eqb _ _ (p .if2 .left), ← c .before .check-sheet .ensures, ne-eqb _ _ (c .if3 .taken))
 
 returns-4 : tie.Need-returns-4
 unfolding refusalOf wholes
-returns-4 c = rw (eq-eqb _ _ (c .before .before .before .before .if1 .left), eq-eqb _ _ (c .before .before .before .if2 .left), ← c .before .before .check-sheet .ensures, eq-eqb _ _ (c .before .if3 .left)) (c .input-test .ensures)
+returns-4 c =
+    let s = c .before in
+    let p = s .before .before in
+    rw (eq-eqb _ _ (p .before .if1 .left), eq-eqb _ _ (p .if2 .left), ← s .before .check-sheet .ensures, eq-eqb _ _ (s .if3 .left)) (c .input-test .ensures)
 
 pub refusal-spec : {M : Type 1} → statement M
 refusal-spec =

@@ -5,12 +5,6 @@ use Rattle.ground_phase.specs.GroundPhase.{lastPhase}
 use Rattle.ground_phase.proofs.last_phase.Statement.{statement}
 use Rattle.ground_phase.proofs.last_phase.Tie as tie
 
-enum-told : tie.Need-enum-told
-enum-told c = search needs
-
-enum-known-last : tie.Need-enum-known-last
-enum-known-last c = search needs
-
 returns : tie.Need-returns
 unfolding lastOf lastPhase
 returns c = rw (c .enum-told .given .1)
@@ -20,4 +14,4 @@ unfolding lastOf lastPhase
 returns-2 c = rw (c .before .last .given .1)
 
 pub last-phase-spec : {M : Type 1} → statement M
-last-phase-spec = tie.close (tie.spec enum-told enum-known-last returns returns-2)
+last-phase-spec = tie.close (tie.spec (λ c. search needs) (λ c. search needs) returns returns-2)

@@ -15,8 +15,8 @@ returns c = rw (← c .before .check-sheet .ensures, ne-eqb _ _ (c .if1 .taken))
 returns-2 : tie.Need-returns-2
 unfolding guessLookOf
 returns-2 c =
-    let made = c .before .before .before .before in
-    let tested = made .before .before in
+    let made : tie.After-make-index = search in
+    let tested : tie.Else1 = search in
     let a = tested .before .before .before .args in
     let e = guess-same (made .make-index .last .1 .0) (cutsIn (a .sheet .now) (replicate indexWords 0)) (made .make-index .ensures .1) (a .x) (a .z) in
     rw (← tested .before .check-sheet .ensures, eq-eqb _ _ (tested .if1 .left), ← e, ← c .before .is-guessed .ensures, c .if2 .taken)
@@ -24,8 +24,8 @@ returns-2 c =
 returns-3 : tie.Need-returns-3
 unfolding guessLookOf
 returns-3 c =
-    let made = c .before .before .before .before in
-    let tested = made .before .before in
+    let made : tie.After-make-index = search in
+    let tested : tie.Else1 = search in
     let a = tested .before .before .before .args in
     let e = guess-same (made .make-index .last .1 .0) (cutsIn (a .sheet .now) (replicate indexWords 0)) (made .make-index .ensures .1) (a .x) (a .z) in
     rw (← tested .before .check-sheet .ensures, eq-eqb _ _ (tested .if1 .left), ← e, ← c .before .is-guessed .ensures, c .if2 .left)

@@ -26,93 +26,64 @@ abbrev μ-loop : tie.MeasureT-loop
 loop-holds : tie.Need-loop-holds Inv-loop μ-loop
 loop-holds c lc = starts _ _ _ _ _ _ _
 
-same-length : tie.Need-same-length Inv-loop μ-loop
-same-length c =
-    let at-loop = c .before .before .before in
-    at-loop .loop .inv [] .reached .points .long
+-- ---- the places on the way, each from a later one
+
+abbrev loop : tie.Else1 Inv-loop μ-loop → tie.At-loop Inv-loop μ-loop
+loop c = c .before .before .before
+
+abbrev early : tie.After-hop-step Inv-loop μ-loop → tie.Else1 Inv-loop μ-loop
+early c = c .before .before .before .before .before
+
+-- ---- the answers
 
 returns : tie.Need-returns Inv-loop μ-loop
 unfolding hopFrom
 returns c lc =
-    let at-loop = c .before .before .before in
-    rw (← at-loop .before .from-spin-vector .ensures)
-    (ends-late (at-loop .loop .inv lc) (sym (c .before .is-late .ensures) ∙ c .if1 .taken) (stands _ _ _))
-
-same-length-2 : tie.Need-same-length-2 Inv-loop μ-loop
-same-length-2 c =
-    let at-loop = c .before .before .before .before .before .before in
-    at-loop .loop .inv [] .reached .points .long
+    let l : tie.At-loop Inv-loop μ-loop = search in
+    rw (← l .before .from-spin-vector .ensures) (ends-late (l .loop .inv lc) (sym (c .before .is-late .ensures) ∙ c .if1 .taken) (stands _ _ _))
 
 returns-2 : tie.Need-returns-2 Inv-loop μ-loop
 unfolding hopFrom
 returns-2 c lc =
-    let at-if1 = c .before .before .before in
-    let at-loop = at-if1 .before .before .before in
-    rw (← at-loop .before .from-spin-vector .ensures)
-    (sym (at-if1 .before .is-late .ensures) ∙ at-if1 .if1 .left, ends-due (at-loop .loop .inv lc) (c .if2 .taken))
+    let e : tie.Else1 Inv-loop μ-loop = search in
+    rw (← loop e .before .from-spin-vector .ensures)
+    (sym (e .before .is-late .ensures) ∙ e .if1 .left, ends-due (loop e .loop .inv lc) (c .if2 .taken))
 
 hop-step-requires : tie.Need-hop-step-requires Inv-loop μ-loop
 hop-step-requires c κs =
-    let at-state = c .before .before .before .before .before .before in
-    let at-shared-slice-known2 = at-state .before .before .before .before .before .before in
-    let at-start = at-shared-slice-known2 .before .before in
-    (at-start .pre .0, (c .before .if2 .left, still-bounded (at-state .before .loop .inv [] .reached) (at-start .pre .1)))
-
-enum-known-pass : tie.Need-enum-known-pass Inv-loop μ-loop
-enum-known-pass c = search needs
+    let l : tie.At-loop Inv-loop μ-loop = search in
+    let s : tie.Start Inv-loop μ-loop = search in
+    (s .pre .0, (c .before .if2 .left, still-bounded (l .loop .inv [] .reached) (s .pre .1)))
 
 loop-less : tie.Need-loop-less Inv-loop μ-loop
 loop-less c =
-    let at-hop-step = c .before .before .before .before .before in
-    omega (arith, rw (c .before .pass .given .1) at (at-hop-step .hop-step .ensures [] .count), at-hop-step .before .before .if2 .left)
+    let s : tie.After-hop-step Inv-loop μ-loop = search in
+    omega (arith, rw (c .before .pass .given .1) at (s .hop-step .ensures [] .count), s .before .before .if2 .left)
 
 loop-again : tie.Need-loop-again Inv-loop μ-loop
 loop-again c lc =
-    let at-hop-step = c .before .before .before .before .before in
-    let at-if1 = at-hop-step .before .before .before .before .before in
-    let at-loop = at-if1 .before .before .before in
-    goes-on (at-loop .loop .inv lc) (sym (at-if1 .before .is-late .ensures) ∙ at-if1 .if1 .left) (at-hop-step .before .before .if2 .left)
-    (rw (c .before .pass .given .1) at (at-hop-step .hop-step .ensures lc)) refl
-
-enum-known-pass-2 : tie.Need-enum-known-pass-2 Inv-loop μ-loop
-enum-known-pass-2 c = search needs
-
-same-length-3 : tie.Need-same-length-3 Inv-loop μ-loop
-same-length-3 c =
-    let at-hop-step = c .before .before .before .before .before in
-    let at-is-late = at-hop-step .before .before .before .before .before .before in
-    let at-loop = at-is-late .before .before in
-    at-hop-step .hop-step .ensures [] .points .long ∙ at-loop .loop .inv [] .reached .points .long
+    let s : tie.After-hop-step Inv-loop μ-loop = search in
+    let e = early s in
+    goes-on (loop e .loop .inv lc) (sym (e .before .is-late .ensures) ∙ e .if1 .left) (s .before .before .if2 .left)
+    (rw (c .before .pass .given .1) at (s .hop-step .ensures lc)) refl
 
 returns-3 : tie.Need-returns-3 Inv-loop μ-loop
 unfolding hopFrom
 returns-3 c lc =
-    let at-hop-step = c .before .before .before .before .before in
-    let at-if1 = at-hop-step .before .before .before .before .before in
-    let at-loop = at-if1 .before .before .before in
-    rw (← at-loop .before .from-spin-vector .ensures)
-    (ends-done (at-loop .loop .inv lc) (sym (at-if1 .before .is-late .ensures) ∙ at-if1 .if1 .left) (at-hop-step .before .before .if2 .left)
-    (rw (c .before .pass2 .given .1) at (at-hop-step .hop-step .ensures lc)) _ refl)
-
-enum-known-pass-3 : tie.Need-enum-known-pass-3 Inv-loop μ-loop
-enum-known-pass-3 c = search needs
-
-same-length-4 : tie.Need-same-length-4 Inv-loop μ-loop
-same-length-4 c =
-    let at-hop-step = c .before .before .before .before .before in
-    let at-is-late = at-hop-step .before .before .before .before .before .before in
-    let at-loop = at-is-late .before .before in
-    at-hop-step .hop-step .ensures [] .points .long ∙ at-loop .loop .inv [] .reached .points .long
+    let s : tie.After-hop-step Inv-loop μ-loop = search in
+    let e = early s in
+    rw (← loop e .before .from-spin-vector .ensures)
+    (ends-done (loop e .loop .inv lc) (sym (e .before .is-late .ensures) ∙ e .if1 .left) (s .before .before .if2 .left)
+    (rw (c .before .pass2 .given .1) at (s .hop-step .ensures lc)) _ refl)
 
 returns-4 : tie.Need-returns-4 Inv-loop μ-loop
 unfolding hopFrom
 returns-4 c lc =
-    let at-hop-step = c .before .before .before .before .before in
-    let at-if1 = at-hop-step .before .before .before .before .before in
-    let at-loop = at-if1 .before .before .before in
-    rw (← at-loop .before .from-spin-vector .ensures)
-    (ends-done (at-loop .loop .inv lc) (sym (at-if1 .before .is-late .ensures) ∙ at-if1 .if1 .left) (at-hop-step .before .before .if2 .left)
-    (rw (c .before .pass3 .given .1) at (at-hop-step .hop-step .ensures lc)) _ refl)
+    let s : tie.After-hop-step Inv-loop μ-loop = search in
+    let e = early s in
+    rw (← loop e .before .from-spin-vector .ensures)
+    (ends-done (loop e .loop .inv lc) (sym (e .before .is-late .ensures) ∙ e .if1 .left) (s .before .before .if2 .left)
+    (rw (c .before .pass3 .given .1) at (s .hop-step .ensures lc)) _ refl)
 
 pub hop-spec : {M : Type 1} → statement M
 hop-spec =
@@ -123,17 +94,17 @@ hop-spec =
     (λ c κs. tt)
     loop-holds
     (λ c κs. tt)
-    same-length
+    (λ c. returns c [] .points .long)
     returns
-    same-length-2
+    (λ c. returns-2 c [] .1 .points .long)
     returns-2
     hop-step-requires
-    enum-known-pass
+    (λ c. search needs)
     loop-less
     loop-again
-    enum-known-pass-2
-    same-length-3
+    (λ c. search needs)
+    (λ c. returns-3 c [] .points .long)
     returns-3
-    enum-known-pass-3
-    same-length-4
+    (λ c. search needs)
+    (λ c. returns-4 c [] .points .long)
     returns-4)

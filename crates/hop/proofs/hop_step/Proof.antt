@@ -83,7 +83,7 @@ came-none : (c : tie.After-push-due) → let m = c .before .before .before .befo
     Came (test (good (clear (end (m .before .before)))))
     (λ e f arc. toDue f (ball (test (good (clear (end (m .before .before)))))) (c .before .before .is-due .result)) (m .met3 .given .0 .0)
 came-none c lc =
-    let m = c .before .before .before .before in
+    let m : tie.After-met3 = search in
     let a = m .before .before in
     not-met _ _ (none-arrived _ _ _ _ _ (came-clear (end a) lc) (room (end a)) (a .arrive .ensures) (m .met3 .given .1)) (c .before .before .is-due .ensures)
 
@@ -91,14 +91,9 @@ came-none c lc =
 
 count-step-requires : tie.Need-count-step-requires
 count-step-requires c κs =
-    let p = c .before .before .before .before .before .before .pre in
+    let s : tie.Start = search in
+    let p = s .pre in
     (omega (arith, p .1 .0, p .1 .1 .limit), (p .1 .1 .work, omega arith))
-
-enum-known-t2 : tie.Need-enum-known-t2
-enum-known-t2 c = search needs
-
-enum-told : tie.Need-enum-told
-enum-told c = search needs
 
 returns : tie.Need-returns
 returns c lc =
@@ -107,12 +102,6 @@ returns c lc =
 
 clear-requires : tie.Need-clear-requires
 clear-requires c κs = start (step (test (c .before .before))) .pre .0
-
-enum-known-end : tie.Need-enum-known-end
-enum-known-end c = search needs
-
-enum-told-2 : tie.Need-enum-told-2
-enum-told-2 c = search needs
 
 returns-2 : tie.Need-returns-2
 returns-2 c lc =
@@ -125,75 +114,41 @@ arrive-requires c κs =
     let p = start (step (test (good (clear e)))) .pre in
     (p .0, omega (arith, none-yet e, p .1 .0, p .1 .1 .limit, p .1 .1 .work))
 
-enum-known-met : tie.Need-enum-known-met
-enum-known-met c = search needs
-
-enum-known-met-2 : tie.Need-enum-known-met-2
-enum-known-met-2 c = search needs
-
-enum-known-t5 : tie.Need-enum-known-t5
-enum-known-t5 c = search needs
-
-enum-told-3 : tie.Need-enum-told-3
-enum-told-3 c = search needs
-
 returns-3 : tie.Need-returns-3
 unfolding hopNext
 returns-3 c lc =
-    let at-met2 = c .before .before .before .before in
-    let m = at-met2 in
+    let m : tie.After-met2 = search in
     let a = m .before .before in
-    ended (state-bad _ (arrived _ _ _ _ _ (came-clear (end a) lc) (room (end a)) (a .arrive .ensures) (m .met2 .given .1)) refl (c .before .before .test2 .ensures)
-    (c .enum-told3 .given .1))
-
-enum-known-met-3 : tie.Need-enum-known-met-3
-enum-known-met-3 c = search needs
+    ended (state-bad _ (arrived _ _ _ _ _ (came-clear (end a) lc) (room (end a)) (a .arrive .ensures) (m .met2 .given .1)) refl
+    (c .before .before .test2 .ensures) (c .enum-told3 .given .1))
 
 push-due-requires : tie.Need-push-due-requires
 push-due-requires c κs =
-    let a = c .before .before .before .before .before in
+    let a : tie.After-arrive = search in
     start (step (test (good (clear (end a))))) .pre .0
-
-enum-known-sampled : tie.Need-enum-known-sampled
-enum-known-sampled c = search needs
-
-same-length : tie.Need-same-length
-same-length c =
-    let at-push-due = c .before .before .before .before .before in
-    at-push-due .push-due .kept .1 .1 .1 .0
 
 returns-4 : tie.Need-returns-4
 returns-4 c lc =
-    let p = c .before .before .before .before .before in
+    let p : tie.After-push-due = search in
     ended (due-stopped _ _ _ _ (came-none p lc) (p .push-due .ensures) (c .before .sampled .given .1))
-
-enum-known-sampled-2 : tie.Need-enum-known-sampled-2
-enum-known-sampled-2 c = search needs
 
 returns-5 : tie.Need-returns-5
 returns-5 c lc =
-    let at-arrive = c .before .before .before in
-    let a = at-arrive in
+    let a : tie.After-arrive = search in
     ended (arrive-off _ _ _ _ _ (came-clear (end a) lc) (room (end a)) (a .arrive .ensures) (c .before .met .given .1))
 
 returns-6 : tie.Need-returns-6
 unfolding hopNext
 returns-6 c lc =
-    let at-test2 = c .before .before .before in
-    let m = at-test2 .before .before in
+    let t : tie.After-test2 = search in
+    let m = t .before .before in
     let a = m .before .before in
-    ended (state-good _ (arrived _ _ _ _ _ (came-clear (end a) lc) (room (end a)) (a .arrive .ensures) (m .met2 .given .1)) refl (at-test2 .test2 .ensures)
-    (c .before .t5 .given .1))
-
-same-length-2 : tie.Need-same-length-2
-same-length-2 c =
-    let at-push-due = c .before .before .before .before .before .before in
-    at-push-due .push-due .kept .1 .1 .1 .0
+    ended (state-good _ (arrived _ _ _ _ _ (came-clear (end a) lc) (room (end a)) (a .arrive .ensures) (m .met2 .given .1)) refl
+    (t .test2 .ensures) (c .before .t5 .given .1))
 
 returns-7 : tie.Need-returns-7
 returns-7 c lc =
-    let at-push-due = c .before .before .before .before .before .before in
-    let p = at-push-due in
+    let p : tie.After-push-due = search in
     rw (c .next-after .ensures) (ended (due-pushed _ _ _ _ (came-none p lc) (p .push-due .ensures) (c .before .before .sampled2 .given .1)))
 
 pub hop-step-spec : {M : Type 1} → statement M
@@ -204,29 +159,29 @@ hop-step-spec =
     (λ c κs. tt)
     count-step-requires
     (λ c κs. tt)
-    enum-known-t2
-    enum-told
+    (λ c. search needs)
+    (λ c. search needs)
     returns
     clear-requires
-    enum-known-end
-    enum-told-2
+    (λ c. search needs)
+    (λ c. search needs)
     returns-2
     arrive-requires
-    enum-known-met
-    enum-known-met-2
+    (λ c. search needs)
+    (λ c. search needs)
     (λ c κs. tt)
-    enum-known-t5
-    enum-told-3
+    (λ c. search needs)
+    (λ c. search needs)
     returns-3
-    enum-known-met-3
+    (λ c. search needs)
     (λ c κs. tt)
     push-due-requires
-    enum-known-sampled
-    same-length
+    (λ c. search needs)
+    (λ c. returns-4 c [] .points .long)
     returns-4
-    enum-known-sampled-2
+    (λ c. search needs)
     (λ c κs. tt)
     returns-5
     returns-6
-    same-length-2
+    (λ c. returns-7 c [] .points .long)
     returns-7)

@@ -6,7 +6,9 @@ use Rattle.impact.proofs.friction_impulse.Tie as tie
 
 returns : tie.Need-returns
 unfolding frictionImpulse ofBits round
-returns c = simp (← c .before .before .before .length .ensures, ← c .before .before .min .ensures, ← c .scale .ensures, c .before .if1 .taken)
+returns c =
+    let at-length : tie.After-length = search in
+    simp (← at-length .length .ensures, ← c .before .before .min .ensures, ← c .scale .ensures, c .before .if1 .taken)
 
 returns-2 : tie.Need-returns-2
 unfolding frictionImpulse ofBits round

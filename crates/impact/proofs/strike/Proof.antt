@@ -6,9 +6,30 @@ use Rattle.impact.proofs.strike.Tie as tie
 
 returns : tie.Need-returns
 unfolding struck ofBits round
-returns c = simp (c .pivot-friction .ensures, c .before .before .add4 .ensures, c .before .before .before .div .ensures, c .before .before .before .before .cross2 .ensures, c .before .before .before .before .before .add3 .ensures, c .before .before .before .before .before .before .add2 .ensures, c .before .before .before .before .before .before .before .scale3 .ensures, c .before .before .before .before .before .before .before .before .friction-impulse .ensures, c .before .before .before .before .before .before .before .before .before .before .add .ensures, c .before .before .before .before .before .before .before .before .before .before .before .cross .ensures, c .before .before .before .before .before .before .before .before .before .before .before .before .sub .ensures, c .before .before .before .before .before .before .before .before .before .before .before .before .before .scale2 .ensures, c .before .before .before .before .before .before .before .before .before .before .before .before .before .before .scale .ensures, c .before .before .before .before .before .before .before .before .before .before .before .before .before .before .before .coefficient-at .ensures)
+returns c =
+    let at-div : tie.After-div = search in
+    let at-add2 : tie.After-add2 = search in
+    let at-add : tie.After-add = search in
+    let at-scale2 : tie.After-scale2 = search in
+    simp (
+      c .pivot-friction .ensures,
+      c .before .before .add4 .ensures,
+      at-div .div .ensures,
+      at-div .before .cross2 .ensures,
+      at-div .before .before .add3 .ensures,
+      at-add2 .add2 .ensures,
+      at-add2 .before .scale3 .ensures,
+      at-add2 .before .before .friction-impulse .ensures,
+      at-add .add .ensures,
+      at-add .before .cross .ensures,
+      at-add .before .before .sub .ensures,
+      at-scale2 .scale2 .ensures,
+      at-scale2 .before .scale .ensures,
+      at-scale2 .before .before .coefficient-at .ensures,
+    )
 
 pub strike-spec : {M : Type 1} → statement M
 strike-spec =
     tie.close
-    (tie.spec (λ c κs. tt) (λ c κs. tt) (λ c κs. tt) (λ c κs. tt) (λ c κs. tt) (λ c κs. tt) (λ c κs. tt) (λ c κs. tt) (λ c κs. tt) (λ c κs. tt) (λ c κs. tt) (λ c κs. tt) (λ c κs. tt) (λ c κs. tt) returns)
+    (tie.spec (λ c κs. tt) (λ c κs. tt) (λ c κs. tt) (λ c κs. tt) (λ c κs. tt) (λ c κs. tt) (λ c κs. tt) (λ c κs. tt) (λ c κs. tt) (λ c κs. tt)
+    (λ c κs. tt) (λ c κs. tt) (λ c κs. tt) (λ c κs. tt) returns)

@@ -1,14 +1,10 @@
 -- cut_at: one cut, from its bits.
-use native.Mathlib.Omega.{arith}
 use borrow.Author.Needs.{needs}
 use Rattle.index.proofs.cut_at.Statement.{statement}
 use Rattle.index.proofs.cut_at.Tie as tie
-
-shared-slice-read-float-of : tie.Need-shared-slice-read-float-of
-shared-slice-read-float-of c = omega (arith, c .before .before .pre .0)
 
 returns : tie.Need-returns
 returns c = c .float-of .ensures
 
 pub cut-at-spec : {M : Type 1} → statement M
-cut-at-spec = tie.close (tie.spec (λ c. search needs) (λ c. search needs) shared-slice-read-float-of (λ c κs. search needs) returns)
+cut-at-spec = tie.close (tie.spec (λ c. search needs) (λ c. search needs) (λ c. search needs) (λ c κs. search needs) returns)

@@ -6,7 +6,20 @@ use Rattle.index.proofs.spot_in.Tie as tie
 
 returns : tie.Need-returns
 unfolding covers
-returns c = simp (← c .before .before .before .before .before .edge .ensures, ← c .before .before .before .before .edge2 .ensures, ← c .before .before .before .edge3 .ensures, ← c .before .before .edge4 .ensures, ← c .before .within .ensures, ← c .within2 .ensures)
+returns c =
+    let z : tie.After-edge4 = search in
+    let x : tie.After-edge2 = search in
+    simp (
+      ← x .before .edge .ensures,
+      ← x .edge2 .ensures,
+      ← z .before .edge3 .ensures,
+      ← z .edge4 .ensures,
+      ← c .before .within .ensures,
+      ← c .within2 .ensures,
+    )
 
 pub spot-in-spec : {M : Type 1} → statement M
-spot-in-spec = tie.close (tie.spec (λ c κs. search needs) (λ c κs. search needs) (λ c κs. search needs) (λ c κs. search needs) (λ c κs. search needs) (λ c κs. search needs) returns)
+spot-in-spec =
+    tie.close
+    (tie.spec (λ c κs. search needs) (λ c κs. search needs) (λ c κs. search needs) (λ c κs. search needs) (λ c κs. search needs)
+    (λ c κs. search needs) returns)

@@ -16,12 +16,9 @@ abbrev μ-loop : tie.MeasureT-loop
 loop-holds : tie.Need-loop-holds Inv-loop μ-loop
 loop-holds c = ((omega arith, omega arith), first _ _ _)
 
-cut-at-requires : tie.Need-cut-at-requires Inv-loop μ-loop
-cut-at-requires c κs = (c .before .before .before .pre .0, omega arith)
-
 loop-again : tie.Need-loop-again Inv-loop μ-loop
 loop-again c =
-    let at-loop = c .before .before in
+    let at-loop : tie.In-loop Inv-loop μ-loop = search in
     let l = at-loop .before .loop .inv .1 in
     let p = at-loop .loop-test .taken in
     let e = c .before .cut-at .ensures in (
@@ -33,4 +30,7 @@ returns : tie.Need-returns Inv-loop μ-loop
 returns c = (omega arith, found _ _ _ (c .before .loop .inv .1) (omega arith))
 
 pub strip-of-spec : {M : Type 1} → statement M
-strip-of-spec = tie.close (tie.spec Inv-loop μ-loop loop-holds (λ c. search needs) (λ c. search needs) (λ c. search needs) cut-at-requires (λ c. search needs) (λ c. search needs) loop-again returns)
+strip-of-spec =
+    tie.close
+    (tie.spec Inv-loop μ-loop loop-holds (λ c. search needs) (λ c. search needs) (λ c. search needs) (λ c κs. search needs) (λ c. search needs)
+    (λ c. search needs) loop-again returns)

@@ -42,13 +42,18 @@ returns c =
 
 returns-2 : tie.Need-returns-2
 returns-2 c =
-    let a = c .before .before .before .before .before .before .args in
-    rw (long (a .fading) (a .input .now) (a .contacts .now) (a .points .now) (c .before .before .if1 .left) (c .before .if2 .taken), ← c .refused2 .ensures)
+    let at-if1 = c .before .before in
+    let a = at-if1 .before .before .before .before .args in
+    rw (long (a .fading) (a .input .now) (a .contacts .now) (a .points .now) (at-if1 .if1 .left) (c .before .if2 .taken), ← c .refused2 .ensures)
 
 returns-3 : tie.Need-returns-3
 returns-3 c =
-    let a = c .before .before .before .before .before .before .before .before .before .before .before .before .before .before .args in
-    settles (a .fading) (a .input .now) (a .contacts .now) (a .points .now) (c .before .before .before .before .settle .ensures) (part (a .input .now)) (c .before .before .before .before .before .before .before .before .shot-at .ensures) (c .before .before .before .before .before .before .before .before .before .before .if1 .left) (c .before .before .before .before .before .before .before .before .before .if2 .left)
+    let at-settle = c .before .before .before .before in
+    let at-shot-at = at-settle .before .before .before .before in
+    let at-if2 = at-shot-at .before in
+    let a = at-if2 .before .before .before .before .before .args in
+    settles (a .fading) (a .input .now) (a .contacts .now) (a .points .now) (at-settle .settle .ensures) (part (a .input .now)) (at-shot-at .shot-at .ensures)
+    (at-if2 .before .if1 .left) (at-if2 .if2 .left)
 
 pub settle-input-spec : {M : Type 1} → statement M
 settle-input-spec =

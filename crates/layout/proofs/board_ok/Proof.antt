@@ -8,11 +8,11 @@ use Rattle.layout.proofs.board_ok.Tie as tie
 returns : tie.Need-returns
 unfolding boardOk ofBits round neg
 returns c =
-    let at-is-whole = c .before .before .before in
-    let at-within = at-is-whole .before .before .before .before in
+    let at-is-whole : tie.After-is-whole = search in
+    let at-within2 : tie.After-within2 = search in
     rw (
-      at-within .within .ensures,
-      at-is-whole .before .before .within2 .ensures,
+      at-within2 .before .before .within .ensures,
+      at-within2 .within2 .ensures,
       at-is-whole .is-whole .ensures,
       c .entries-ok .ensures,
       c .before .nat-of .ensures,

@@ -35,18 +35,20 @@ loop-less c = omega arith
 loop-again : tie.Need-loop-again Inv-loop μ-loop
 unfolding entriesAt
 loop-again c =
-    let h : c .before .before .loop .i < length (c .before .before .loop .out) = omega arith in (
+    let at-loop : tie.At-loop Inv-loop μ-loop = search in
+    let h : at-loop .loop .i < length (at-loop .loop .out) = omega arith in (
       omega arith,
-      simp length-set (c .before .before .loop .inv .1),
+      simp length-set (omega arith),
       rw
-          (add-one, take-suc-set (c .before .before .loop .out) (c .before .before .loop .i) _ h, c .before .before .loop .inv .2, c .entry-at .ensures),
+          (add-one, take-suc-set _ _ _ h, at-loop .loop .inv .2, c .entry-at .ensures),
     )
 
 returns : tie.Need-returns Inv-loop μ-loop
 returns c =
-    let e : c .before .loop .i ≡ 256 = omega arith in
-    let h : length (c .before .loop .out) ≤ c .before .loop .i = omega arith in
-    sym (take-all (c .before .loop .i) (c .before .loop .out) h) ∙ c .before .loop .inv .2 ∙ ap (entriesAt (c .before .before .before .args .l .now)) e
+    let at-loop = c .before in
+    let e : at-loop .loop .i ≡ 256 = omega arith in
+    let h : length (at-loop .loop .out) ≤ at-loop .loop .i = omega arith in
+    sym (take-all _ _ h) ∙ at-loop .loop .inv .2 ∙ ap (entriesAt _) e
 
 pub entries-at-spec : {M : Type 1} → statement M
 entries-at-spec =

@@ -31,7 +31,7 @@ loop-again c = (omega arith, rw (add-one, c .before .before .before .loop .inv .
 returns : tie.Need-returns Inv-loop μ-loop
 returns c =
     let e : c .before .loop .i ≡ 256 = omega arith in
-    c .before .loop .inv .1 ∙ ap (entriesOk (c .before .before .before .args .l .now) (c .before .before .before .args .count)) e
+    c .before .loop .inv .1 ∙ ap (entriesOk _ _) e
 
 pub entries-ok-spec : {M : Type 1} → statement M
 entries-ok-spec =

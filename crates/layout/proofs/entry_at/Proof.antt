@@ -7,12 +7,13 @@ use Rattle.layout.proofs.entry_at.Tie as tie
 returns : tie.Need-returns
 unfolding entryAt
 returns c =
-    let at-termination-of = c .before .before .before .before in
-    let at-nat-of2 = at-termination-of .before .before .before in
+    let at-nat-of4 : tie.After-nat-of4 = search in
+    let at-nat-of3 : tie.After-nat-of3 = search in
+    let at-nat-of2 : tie.After-nat-of2 = search in
     rw (
-      c .before .before .nat-of4 .ensures,
-      at-termination-of .termination-of .ensures,
-      at-termination-of .before .nat-of3 .ensures,
+      at-nat-of4 .nat-of4 .ensures,
+      at-nat-of4 .before .before .termination-of .ensures,
+      at-nat-of3 .nat-of3 .ensures,
       at-nat-of2 .nat-of2 .ensures,
       at-nat-of2 .before .before .nat-of .ensures,
     )

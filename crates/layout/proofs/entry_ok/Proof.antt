@@ -8,12 +8,13 @@ use Rattle.layout.proofs.entry_ok.Tie as tie
 returns : tie.Need-returns
 unfolding entryOk ofBits round neg
 returns c =
-    let at-is-whole4 = c .before .before .before .before in
-    let at-is-whole2 = at-is-whole4 .before .before .before .before in
+    let at-is-whole4 : tie.After-is-whole4 = search in
+    let at-is-whole3 : tie.After-is-whole3 = search in
+    let at-is-whole2 : tie.After-is-whole2 = search in
     rw (
       at-is-whole2 .before .before .is-whole .ensures,
       at-is-whole2 .is-whole2 .ensures,
-      at-is-whole4 .before .before .is-whole3 .ensures,
+      at-is-whole3 .is-whole3 .ensures,
       at-is-whole4 .is-whole4 .ensures,
       c .before .before .within .ensures,
       c .within2 .ensures,

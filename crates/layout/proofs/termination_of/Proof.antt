@@ -1,5 +1,4 @@
 -- `termination_of` tells the numbers apart one by one.
-use borrow.Author.Needs.{needs}
 use borrow.Author.Tests.{eq-eqb, ne-eqb}
 use Rattle.layout.specs.Layout.{terminationOf}
 use Rattle.layout.proofs.termination_of.Statement.{statement}

@@ -8,10 +8,9 @@ use Rattle.layout.proofs.write_board.Tie as tie
 returns : tie.Need-returns
 unfolding boardFields written
 returns c =
-    let at-out = c .before .before .before .before .before .before in
-    let at-put = at-out .before in
-    let at-whole = at-put .before .before .before in
-    rw (c .before .before .write-entries .ensures, at-put .put .ensures, at-whole .whole .ensures)
+    let at-write-entries : tie.After-write-entries = search in
+    let at-put : tie.After-put = search in
+    rw (at-write-entries .write-entries .ensures, at-put .put .ensures, at-put .before .before .before .whole .ensures)
 
 pub write-board-spec : {M : Type 1} → statement M
 write-board-spec =

@@ -38,7 +38,7 @@ next l₀ l m es i b h t e =
 
 loop-holds : tie.Need-loop-holds Inv-loop μ-loop
 unfolding entriesFields
-loop-holds c = let h = c .before .pre in (omega arith, h, sym (append-nil (take 3 (c .before .args .out .now))))
+loop-holds c = let h = c .before .pre in (omega arith, h, sym (append-nil _))
 
 mul-write-entry : tie.Need-mul-write-entry Inv-loop μ-loop
 mul-write-entry c = omega arith
@@ -54,21 +54,21 @@ loop-less c = omega arith
 
 loop-again : tie.Need-loop-again Inv-loop μ-loop
 loop-again c =
-    let at-loop = c .before .before .before .before .before .before in
+    let at-loop : tie.At-loop Inv-loop μ-loop = search in
     let a = at-loop .before .before .args in
     let v = at-loop .loop .inv in
     let b : at-loop .loop .i + 1 ≤ 256 = omega arith in
-    let n = next (a .out .now) (at-loop .loop .out) _ (a .t2) (at-loop .loop .i) b (v .1) (v .2) (c .before .before .write-entry .ensures) in
+    let n = next (a .out .now) _ _ (a .t2) _ b (v .1) (v .2) (c .before .before .write-entry .ensures) in
     (b, n .0, n .1)
 
 returns : tie.Need-returns Inv-loop μ-loop
 returns c =
-    let at-start = c .before .before .before in
-    let a = at-start .args in
-    let e : c .before .loop .i ≡ 256 = omega arith in
-    let h : length (c .before .loop .out) ≤ boardLength = omega arith in
-    sym (take-all boardLength (c .before .loop .out) h) ∙ subst
-    (λ (n : ℕ). take (start n) (c .before .loop .out) ≡ take 3 (a .out .now) ++ entriesFields (a .t2) n) e (c .before .loop .inv .2)
+    let at-loop = c .before in
+    let a = at-loop .before .before .args in
+    let e : at-loop .loop .i ≡ 256 = omega arith in
+    let h : length (at-loop .loop .out) ≤ boardLength = omega arith in
+    sym (take-all boardLength _ h) ∙ subst
+    (λ (n : ℕ). take (start n) (at-loop .loop .out) ≡ take 3 (a .out .now) ++ entriesFields (a .t2) n) e (at-loop .loop .inv .2)
 
 pub write-entries-spec : {M : Type 1} → statement M
 write-entries-spec =

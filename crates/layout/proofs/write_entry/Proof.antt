@@ -5,16 +5,17 @@ use Rattle.layout.proofs.write_entry.Tie as tie
 
 returns : tie.Need-returns
 returns c =
-    let at-whole4 = c .before .before .before .before .before in
-    let at-termination-number = at-whole4 .before .before .before in
-    let at-whole = at-termination-number .before .before .before in
+    let at-put : tie.After-put = search in
+    let at-whole4 : tie.After-whole4 = search in
+    let at-whole3 : tie.After-whole3 = search in
+    let at-whole2 : tie.After-whole2 = search in
     rw (
-      c .before .before .put .ensures,
+      at-put .put .ensures,
       at-whole4 .whole4 .ensures,
-      at-whole4 .before .before .whole3 .ensures,
-      at-termination-number .termination-number .ensures,
-      at-termination-number .before .whole2 .ensures,
-      at-whole .whole .ensures,
+      at-whole3 .whole3 .ensures,
+      at-whole3 .before .termination-number .ensures,
+      at-whole2 .whole2 .ensures,
+      at-whole2 .before .before .whole .ensures,
     )
 
 pub write-entry-spec : {M : Type 1} → statement M

@@ -8,10 +8,10 @@ use Rattle.line.proofs.put_counts.Tie as tie
 returns : tie.Need-returns
 unfolding countsOf
 returns c =
-    let at-out2 = c .before .before .before .before .before .before in
-    let at-put-count2 = at-out2 .before in
-    let at-put-count = at-put-count2 .before .before .before .before .before in
-    both (both (at-put-count .put-count .ensures) (at-put-count2 .put-count2 .ensures)) (c .before .before .put-count3 .ensures)
+    let at-put-count3 : tie.After-put-count3 = search in
+    let at-put-count2 : tie.After-put-count2 = search in
+    both (both (at-put-count2 .before .before .before .before .before .put-count .ensures) (at-put-count2 .put-count2 .ensures))
+    (at-put-count3 .put-count3 .ensures)
 
 pub put-counts-spec : {M : Type 1} → statement M
 put-counts-spec =

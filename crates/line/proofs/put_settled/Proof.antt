@@ -26,22 +26,21 @@ module _ (s : Settled) {l m : List ℕ} {a : ℕ} (x : Puts 27 l 0 (answerWord +
 
 returns : tie.Need-returns
 returns c =
-    let at-if1 = c .before .before .before .before .before in
-    let at-put-count = at-if1 .before .before .before .before .before in
-    let at-start = at-put-count .before .before .before .before .before in
-    short (at-start .args .s) (at-put-count .put-count .ensures) (at-if1 .if1 .taken) (c .before .before .put .ensures)
+    let at-put : tie.After-put = search in
+    let at-if1 : tie.Then1 = search in
+    let at-put-count : tie.After-put-count = search in
+    short (at-put-count .before .before .before .before .before .args .s) (at-put-count .put-count .ensures) (at-if1 .if1 .taken) (at-put .put .ensures)
 
 returns-2 : tie.Need-returns-2
 returns-2 c =
-    let at-out5 = c .before .before .before .before .before .before in
-    let at-put-counts = at-out5 .before in
-    let at-put-termination = at-put-counts .before .before .before .before in
-    let at-put2 = at-put-termination .before .before .before .before in
-    let at-if1 = at-put2 .before .before .before in
-    let at-put-count = at-if1 .before .before .before .before .before in
-    let at-start = at-put-count .before .before .before .before .before in
-    whole (at-start .args .s) (at-put-count .put-count .ensures) (at-if1 .if1 .left) (at-put2 .put2 .ensures)
-    (at-put-termination .put-termination .ensures) (at-put-counts .put-counts .ensures) (c .before .before .put3 .ensures)
+    let at-put3 : tie.After-put3 = search in
+    let at-put-counts : tie.After-put-counts = search in
+    let at-put-termination : tie.After-put-termination = search in
+    let at-put2 : tie.After-put2 = search in
+    let at-if1 : tie.Else1 = search in
+    let at-put-count : tie.After-put-count = search in
+    whole (at-put-count .before .before .before .before .before .args .s) (at-put-count .put-count .ensures) (at-if1 .if1 .left) (at-put2 .put2 .ensures)
+    (at-put-termination .put-termination .ensures) (at-put-counts .put-counts .ensures) (at-put3 .put3 .ensures)
 
 pub put-settled-spec : {M : Type 1} → statement M
 put-settled-spec =

@@ -38,25 +38,25 @@ returns-2 c = says-39 _ _ _ _ _ (whole (c .before .before)) (sym (c .before .all
 
 returns-3 : tie.Need-returns-3
 returns-3 c =
-    let d = c .before .before in
+    let d : tie.Else2 = search in
     says-40 _ _ _ _ _ (whole (d .before .before)) (timed d) (sym (c .before .tolerance-ok .ensures) ∙ not-true _ (c .if3 .taken))
 
 add-if4 : tie.Need-add-if4
 add-if4 c =
-    let d = c .before .before in
+    let d : tie.Else2 = search in
     let a = first d .args in
     omega (arith, whole-holds (length (a .contacts .now)) (a .n) (whole (d .before .before)), few-heard (a .heard .now) (a .contacts .now) (a .n) (timed d))
 
 returns-4 : tie.Need-returns-4
 returns-4 c =
     let e = c .before in
-    let d = e .before .before in
+    let d : tie.Else2 = search in
     says-41 _ _ _ _ _ (whole (d .before .before)) (timed d) (tolerated e) (c .if4 .taken)
 
 returns-5 : tie.Need-returns-5
 returns-5 c =
     let e = c .before in
-    let d = e .before .before in
+    let d : tie.Else2 = search in
     says-0 _ _ _ _ _ (whole (d .before .before)) (timed d) (tolerated e) (c .if4 .left)
 
 pub refusal-spec : {M : Type 1} → statement M

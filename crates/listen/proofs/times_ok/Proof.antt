@@ -24,27 +24,28 @@ loop-holds c = (omega arith, refl)
 
 mul-x : tie.Need-mul-x Inv-loop μ-loop
 mul-x c =
-    let a = c .before .before .before in
+    let a : tie.Start Inv-loop μ-loop = search in
     let h = inside (c .before .loop .i) (a .args .n) (a .args .width) (length (a .args .list .now)) (a .pre .0) (c .loop-test .taken) (a .pre .1) in
     omega arith
 
 mul-x-2 : tie.Need-mul-x-2 Inv-loop μ-loop
 mul-x-2 c =
-    let a = c .before .before .before in
+    let a : tie.Start Inv-loop μ-loop = search in
     let h = inside (c .before .loop .i) (a .args .n) (a .args .width) (length (a .args .list .now)) (a .pre .0) (c .loop-test .taken) (a .pre .1) in
     omega arith
 
 shared-slice-read-x : tie.Need-shared-slice-read-x Inv-loop μ-loop
 shared-slice-read-x c =
-    let a = c .before .before .before .before in
-    inside (c .before .before .loop .i) (a .args .n) (a .args .width) (length (a .args .list .now)) (a .pre .0) (c .before .loop-test .taken) (a .pre .1)
+    let at-loop : tie.At-loop Inv-loop μ-loop = search in
+    let a : tie.Start Inv-loop μ-loop = search in
+    inside (at-loop .loop .i) (a .args .n) (a .args .width) (length (a .args .list .now)) (a .pre .0) (c .before .loop-test .taken) (a .pre .1)
 
 time-ok-requires : tie.Need-time-ok-requires Inv-loop μ-loop
 time-ok-requires c κs = search needs
 
 returns : tie.Need-returns Inv-loop μ-loop
 returns c =
-    let at-test = c .before .before .before in
+    let at-test : tie.In-loop Inv-loop μ-loop = search in
     let l = at-test .before .loop in
     let a = at-test .before .before .before .args in
     let h = at-test .loop-test .taken in
@@ -60,7 +61,7 @@ loop-less c = omega arith
 
 loop-again : tie.Need-loop-again Inv-loop μ-loop
 loop-again c =
-    let at-test = c .before .before .before in
+    let at-test : tie.In-loop Inv-loop μ-loop = search in
     let l = at-test .before .loop in
     let a = at-test .before .before .before .args in
     let h = at-test .loop-test .taken in

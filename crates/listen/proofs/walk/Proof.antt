@@ -163,8 +163,9 @@ add-fill-2 c = let r = rest (c .before .before .before .before .before) in omega
 
 fill-requires-2 : tie.Need-fill-requires-2 Inv-loop μ-loop
 fill-requires-2 c κs =
-    let r = rest (c .before .before .before .before .before) in
-    (omega arith, omega (arith, c .before .before .before .fill .kept .0))
+    let at-fill : tie.After-fill Inv-loop μ-loop = search in
+    let r = rest (at-fill .before .before) in
+    (omega arith, omega (arith, at-fill .fill .kept .0))
 
 -- both fills
 abbrev filled : tie.After-slice-known3 Inv-loop μ-loop → tie.After-fill Inv-loop μ-loop

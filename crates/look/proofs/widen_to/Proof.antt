@@ -5,7 +5,15 @@ use Rattle.look.proofs.widen_to.Tie as tie
 
 returns : tie.Need-returns
 unfolding widen
-returns c = rw (c .before .before .before .before .if1 .taken, c .before .before .before .lesser-of .ensures, c .before .before .greater-of .ensures, c .before .lesser-of2 .ensures, c .greater-of2 .ensures)
+returns c =
+    let at-lesser-of = c .before .before .before in
+    rw (
+      at-lesser-of .before .if1 .taken,
+      at-lesser-of .lesser-of .ensures,
+      c .before .before .greater-of .ensures,
+      c .before .lesser-of2 .ensures,
+      c .greater-of2 .ensures,
+    )
 
 returns-2 : tie.Need-returns-2
 unfolding widen

@@ -13,7 +13,8 @@ float-from-bits-result c = rw (nanBits-above, le-ltb _ _ (c .if1 .left)) tt
 
 returns : tie.Need-returns
 unfolding div ofBits
-returns c = sym (is-nan (ofBits binary64 (c .before .args .bits)) (sym (nanBits-is binary64 (c .before .args .bits)) ∙ nanBits-above binary64 (c .before .args .bits) ∙ lt-ltb _ _ (c .if1 .taken)))
+returns c = sym (is-nan (ofBits binary64 (c .before .args .bits))
+    (sym (nanBits-is binary64 (c .before .args .bits)) ∙ nanBits-above binary64 (c .before .args .bits) ∙ lt-ltb _ _ (c .if1 .taken)))
 
 pub float-of-spec : {M : Type 1} → statement M
 float-of-spec = tie.close (tie.spec float-from-bits-result returns (λ c. search needs))

@@ -6,7 +6,9 @@ use Rattle.probe.proofs.fill.Statement.{statement}
 use Rattle.probe.proofs.fill.Tie as tie
 
 returns : tie.Need-returns
-returns c = cc (all-written (c .before .before .before .before .before .before .args .out .now) (c .before .before .before .before .before .before .args .rec .now) (omega arith))
+returns c =
+    let start : tie.Start = search in
+    cc (all-written (start .args .out .now) (start .args .rec .now) (omega arith))
 
 pub fill-spec : {M : Type 1} → statement M
 fill-spec = tie.close (tie.spec (λ c κs. search needs) (λ c. search needs) returns)

@@ -14,7 +14,18 @@ returns-2 c = wrong-out _ _ _ _ _ (omega arith) (c .if2 .taken)
 
 returns-3 : tie.Need-returns-3
 unfolding accelerationRow ofBits round
-returns-3 c = right _ _ _ _ _ (omega arith) (omega arith) _ (simp (← c .before .before .before .before .before .before .before .before .before .ball-at .ensures, ← c .before .before .before .before .before .before .before .before .vec-at .ensures, ← c .before .before .before .before .before .before .before .vec-at2 .ensures, ← c .before .before .before .acceleration .ensures) (c .before .before .fill-vec .ensures))
+returns-3 c =
+    let at-acceleration : tie.After-acceleration = search in
+    let at-vec-at2 : tie.After-vec-at2 = search in
+    right _ _ _ _ _ (omega arith) (omega arith) _ (simp (
+      ← at-vec-at2 .before .before .ball-at .ensures,
+      ← at-vec-at2 .before .vec-at .ensures,
+      ← at-vec-at2 .vec-at2 .ensures,
+      ← at-acceleration .acceleration .ensures,
+    ) (search needs))
 
 pub probe-acceleration-spec : {M : Type 1} → statement M
-probe-acceleration-spec = tie.close (tie.spec returns returns-2 (λ c κs. search needs) (λ c κs. search needs) (λ c κs. search needs) (λ c. search needs) (λ c. search needs) (λ c κs. search needs) (λ c κs. search needs) (λ c. search needs) returns-3)
+probe-acceleration-spec =
+    tie.close
+    (tie.spec returns returns-2 (λ c κs. search needs) (λ c κs. search needs) (λ c κs. search needs) (λ c. search needs) (λ c. search needs)
+    (λ c κs. search needs) (λ c κs. search needs) (λ c. search needs) returns-3)

@@ -13,7 +13,13 @@ returns-2 c = wrong-out _ _ _ _ _ (omega arith) (c .if2 .taken)
 
 returns-3 : tie.Need-returns-3
 unfolding cdClRow
-returns-3 c = right _ _ _ _ _ (omega arith) (omega arith) _ (simp (← c .before .before .before .before .before .before .before .before .ball-at .ensures, ← c .before .before .before .cd-cl .ensures) (c .before .before .fill-cd-cl .ensures))
+returns-3 c =
+    let at-cd-cl : tie.After-cd-cl = search in
+    right _ _ _ _ _ (omega arith) (omega arith) _ (simp (← at-cd-cl .before .before .before .before .before .ball-at .ensures, ← at-cd-cl .cd-cl .ensures)
+    (search needs))
 
 pub probe-cd-cl-spec : {M : Type 1} → statement M
-probe-cd-cl-spec = tie.close (tie.spec returns returns-2 (λ c κs. search needs) (λ c. search needs) (λ c. search needs) (λ c. search needs) (λ c κs. search needs) (λ c κs. search needs) (λ c. search needs) returns-3)
+probe-cd-cl-spec =
+    tie.close
+    (tie.spec returns returns-2 (λ c κs. search needs) (λ c. search needs) (λ c. search needs) (λ c. search needs) (λ c κs. search needs)
+    (λ c κs. search needs) (λ c. search needs) returns-3)

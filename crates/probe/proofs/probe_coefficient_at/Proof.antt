@@ -13,7 +13,11 @@ returns-2 c = wrong-out _ _ _ _ _ (omega arith) (c .if2 .taken)
 
 returns-3 : tie.Need-returns-3
 unfolding coefficientAtRow
-returns-3 c = right _ _ _ _ _ (omega arith) (omega arith) _ (simp (← c .before .before .before .before .before .before .restitution-of .ensures, ← c .before .before .before .coefficient-at .ensures) (c .before .before .fill-one .ensures))
+returns-3 c = right _ _ _ _ _ (omega arith) (omega arith) _
+    (simp (← c .before .before .before .before .before .before .restitution-of .ensures, ← c .before .before .before .coefficient-at .ensures) (search needs))
 
 pub probe-coefficient-at-spec : {M : Type 1} → statement M
-probe-coefficient-at-spec = tie.close (tie.spec returns returns-2 (λ c. search needs) (λ c. search needs) (λ c κs. search needs) (λ c. search needs) (λ c κs. search needs) (λ c κs. search needs) (λ c. search needs) returns-3)
+probe-coefficient-at-spec =
+    tie.close
+    (tie.spec returns returns-2 (λ c. search needs) (λ c. search needs) (λ c κs. search needs) (λ c. search needs) (λ c κs. search needs)
+    (λ c κs. search needs) (λ c. search needs) returns-3)

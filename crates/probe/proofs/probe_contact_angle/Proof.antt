@@ -13,7 +13,13 @@ returns-2 c = wrong-out _ _ _ _ _ (omega arith) (c .if2 .taken)
 
 returns-3 : tie.Need-returns-3
 unfolding contactAngleRow
-returns-3 c = right _ _ _ _ _ (omega arith) (omega arith) _ (simp (← c .before .before .before .before .before .before .before .green-with .ensures, ← c .before .before .before .contact-angle .ensures) (c .before .before .fill-one .ensures))
+returns-3 c =
+    let at-contact-angle : tie.After-contact-angle = search in
+    right _ _ _ _ _ (omega arith) (omega arith) _ (simp
+    (← at-contact-angle .before .before .before .before .green-with .ensures, ← at-contact-angle .contact-angle .ensures) (search needs))
 
 pub probe-contact-angle-spec : {M : Type 1} → statement M
-probe-contact-angle-spec = tie.close (tie.spec returns returns-2 (λ c. search needs) (λ c κs. search needs) (λ c. search needs) (λ c. search needs) (λ c κs. search needs) (λ c κs. search needs) (λ c. search needs) returns-3)
+probe-contact-angle-spec =
+    tie.close
+    (tie.spec returns returns-2 (λ c. search needs) (λ c κs. search needs) (λ c. search needs) (λ c. search needs) (λ c κs. search needs)
+    (λ c κs. search needs) (λ c. search needs) returns-3)

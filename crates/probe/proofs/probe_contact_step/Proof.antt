@@ -13,7 +13,18 @@ returns-2 c = wrong-out _ _ _ _ _ (omega arith) (c .if2 .taken)
 
 returns-3 : tie.Need-returns-3
 unfolding contactStepRow
-returns-3 c = right _ _ _ _ _ (omega arith) (omega arith) _ (simp (← c .before .before .before .before .before .before .before .before .before .before .state-at .ensures, ← c .before .before .before .before .before .before .before .before .before .sample-at .ensures, ← c .before .before .before .before .before .before .before .before .ball-at .ensures, ← c .before .before .before .contact-step .ensures) (c .before .before .fill-stepped .ensures))
+returns-3 c =
+    let at-contact-step : tie.After-contact-step = search in
+    let at-ball-at : tie.After-ball-at = search in
+    right _ _ _ _ _ (omega arith) (omega arith) _ (simp (
+      ← at-ball-at .before .before .state-at .ensures,
+      ← at-ball-at .before .sample-at .ensures,
+      ← at-ball-at .ball-at .ensures,
+      ← at-contact-step .contact-step .ensures,
+    ) (search needs))
 
 pub probe-contact-step-spec : {M : Type 1} → statement M
-probe-contact-step-spec = tie.close (tie.spec returns returns-2 (λ c κs. search needs) (λ c κs. search needs) (λ c κs. search needs) (λ c. search needs) (λ c. search needs) (λ c. search needs) (λ c κs. search needs) (λ c κs. search needs) (λ c. search needs) returns-3)
+probe-contact-step-spec =
+    tie.close
+    (tie.spec returns returns-2 (λ c κs. search needs) (λ c κs. search needs) (λ c κs. search needs) (λ c. search needs) (λ c. search needs)
+    (λ c. search needs) (λ c κs. search needs) (λ c κs. search needs) (λ c. search needs) returns-3)

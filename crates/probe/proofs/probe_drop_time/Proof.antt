@@ -13,7 +13,9 @@ returns-2 c = wrong-out _ _ _ _ _ (omega arith) (c .if2 .taken)
 
 returns-3 : tie.Need-returns-3
 unfolding dropTimeRow
-returns-3 c = right _ _ _ _ _ (omega arith) (omega arith) _ (simp (← c .before .before .before .drop-time .ensures) (c .before .before .fill-one .ensures))
+returns-3 c = right _ _ _ _ _ (omega arith) (omega arith) _ (simp (← c .before .before .before .drop-time .ensures) (search needs))
 
 pub probe-drop-time-spec : {M : Type 1} → statement M
-probe-drop-time-spec = tie.close (tie.spec returns returns-2 (λ c. search needs) (λ c. search needs) (λ c κs. search needs) (λ c κs. search needs) (λ c. search needs) returns-3)
+probe-drop-time-spec =
+    tie.close
+    (tie.spec returns returns-2 (λ c. search needs) (λ c. search needs) (λ c κs. search needs) (λ c κs. search needs) (λ c. search needs) returns-3)

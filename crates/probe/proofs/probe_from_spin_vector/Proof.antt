@@ -13,7 +13,10 @@ returns-2 c = wrong-out _ _ _ _ _ (omega arith) (c .if2 .taken)
 
 returns-3 : tie.Need-returns-3
 unfolding fromSpinVectorRow
-returns-3 c = right _ _ _ _ _ (omega arith) (omega arith) _ (simp (← c .before .before .before .before .before .vec-at .ensures, ← c .before .before .before .from-spin-vector .ensures) (c .before .before .fill-aero .ensures))
+returns-3 c = right _ _ _ _ _ (omega arith) (omega arith) _
+    (simp (← c .before .before .before .before .before .vec-at .ensures, ← c .before .before .before .from-spin-vector .ensures) (search needs))
 
 pub probe-from-spin-vector-spec : {M : Type 1} → statement M
-probe-from-spin-vector-spec = tie.close (tie.spec returns returns-2 (λ c κs. search needs) (λ c κs. search needs) (λ c κs. search needs) (λ c. search needs) returns-3)
+probe-from-spin-vector-spec =
+    tie.close
+    (tie.spec returns returns-2 (λ c κs. search needs) (λ c κs. search needs) (λ c κs. search needs) (λ c. search needs) returns-3)

@@ -13,7 +13,14 @@ returns-2 c = wrong-out _ _ _ _ _ (omega arith) (c .if2 .taken)
 
 returns-3 : tie.Need-returns-3
 unfolding hermiteRow
-returns-3 c = right _ _ _ _ _ (omega arith) (omega arith) _ (simp (← c .before .before .before .before .before .before .before .before .flight-at .ensures, ← c .before .before .before .before .before .before .before .flight-at2 .ensures, ← c .before .before .before .hermite .ensures) (c .before .before .fill-flight .ensures))
+returns-3 c =
+    let at-hermite : tie.After-hermite = search in
+    let at-flight-at2 : tie.After-flight-at2 = search in
+    right _ _ _ _ _ (omega arith) (omega arith) _ (simp
+    (← at-flight-at2 .before .flight-at .ensures, ← at-flight-at2 .flight-at2 .ensures, ← at-hermite .hermite .ensures) (search needs))
 
 pub probe-hermite-spec : {M : Type 1} → statement M
-probe-hermite-spec = tie.close (tie.spec returns returns-2 (λ c κs. search needs) (λ c κs. search needs) (λ c. search needs) (λ c. search needs) (λ c κs. search needs) (λ c κs. search needs) (λ c. search needs) returns-3)
+probe-hermite-spec =
+    tie.close
+    (tie.spec returns returns-2 (λ c κs. search needs) (λ c κs. search needs) (λ c. search needs) (λ c. search needs) (λ c κs. search needs)
+    (λ c κs. search needs) (λ c. search needs) returns-3)

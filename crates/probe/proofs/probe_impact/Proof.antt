@@ -13,7 +13,18 @@ returns-2 c = wrong-out _ _ _ _ _ (omega arith) (c .if2 .taken)
 
 returns-3 : tie.Need-returns-3
 unfolding impactRow
-returns-3 c = right _ _ _ _ _ (omega arith) (omega arith) _ (simp (← c .before .before .before .before .before .before .before .state-at .ensures, ← c .before .before .before .before .before .before .sample-at .ensures, ← c .before .before .before .before .before .ball-at .ensures, ← c .before .before .before .impact .ensures) (c .before .before .fill-state .ensures))
+returns-3 c =
+    let at-impact : tie.After-impact = search in
+    let at-ball-at : tie.After-ball-at = search in
+    right _ _ _ _ _ (omega arith) (omega arith) _ (simp (
+      ← at-ball-at .before .before .state-at .ensures,
+      ← at-ball-at .before .sample-at .ensures,
+      ← at-ball-at .ball-at .ensures,
+      ← at-impact .impact .ensures,
+    ) (search needs))
 
 pub probe-impact-spec : {M : Type 1} → statement M
-probe-impact-spec = tie.close (tie.spec returns returns-2 (λ c κs. search needs) (λ c κs. search needs) (λ c κs. search needs) (λ c κs. search needs) (λ c κs. search needs) (λ c. search needs) returns-3)
+probe-impact-spec =
+    tie.close
+    (tie.spec returns returns-2 (λ c κs. search needs) (λ c κs. search needs) (λ c κs. search needs) (λ c κs. search needs) (λ c κs. search needs)
+    (λ c. search needs) returns-3)

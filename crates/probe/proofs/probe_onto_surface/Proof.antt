@@ -14,7 +14,18 @@ returns-2 c = wrong-out _ _ _ _ _ (omega arith) (c .if2 .taken)
 
 returns-3 : tie.Need-returns-3
 unfolding ontoSurfaceRow ofBits round
-returns-3 c = right _ _ _ _ _ (omega arith) (omega arith) _ (simp (← c .before .before .before .before .before .before .before .before .before .state-at .ensures, ← c .before .before .before .before .before .before .before .before .sample-at .ensures, ← c .before .before .before .before .before .before .before .vec-at .ensures, ← c .before .before .before .onto-surface .ensures) (c .before .before .fill-state .ensures))
+returns-3 c =
+    let at-onto-surface : tie.After-onto-surface = search in
+    let at-vec-at : tie.After-vec-at = search in
+    right _ _ _ _ _ (omega arith) (omega arith) _ (simp (
+      ← at-vec-at .before .before .state-at .ensures,
+      ← at-vec-at .before .sample-at .ensures,
+      ← at-vec-at .vec-at .ensures,
+      ← at-onto-surface .onto-surface .ensures,
+    ) (search needs))
 
 pub probe-onto-surface-spec : {M : Type 1} → statement M
-probe-onto-surface-spec = tie.close (tie.spec returns returns-2 (λ c κs. search needs) (λ c κs. search needs) (λ c κs. search needs) (λ c. search needs) (λ c. search needs) (λ c κs. search needs) (λ c κs. search needs) (λ c. search needs) returns-3)
+probe-onto-surface-spec =
+    tie.close
+    (tie.spec returns returns-2 (λ c κs. search needs) (λ c κs. search needs) (λ c κs. search needs) (λ c. search needs) (λ c. search needs)
+    (λ c κs. search needs) (λ c κs. search needs) (λ c. search needs) returns-3)

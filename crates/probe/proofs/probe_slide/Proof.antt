@@ -13,7 +13,14 @@ returns-2 c = wrong-out _ _ _ _ _ (omega arith) (c .if2 .taken)
 
 returns-3 : tie.Need-returns-3
 unfolding slideRow
-returns-3 c = right _ _ _ _ _ (omega arith) (omega arith) _ (simp (← c .before .before .before .before .before .before .before .before .before .patch-at .ensures, ← c .before .before .before .before .before .before .before .before .motion-at .ensures, ← c .before .before .before .slide .ensures) (c .before .before .fill-slid .ensures))
+returns-3 c =
+    let at-slide : tie.After-slide = search in
+    let at-motion-at : tie.After-motion-at = search in
+    right _ _ _ _ _ (omega arith) (omega arith) _ (simp
+    (← at-motion-at .before .patch-at .ensures, ← at-motion-at .motion-at .ensures, ← at-slide .slide .ensures) (search needs))
 
 pub probe-slide-spec : {M : Type 1} → statement M
-probe-slide-spec = tie.close (tie.spec returns returns-2 (λ c κs. search needs) (λ c κs. search needs) (λ c. search needs) (λ c. search needs) (λ c. search needs) (λ c κs. search needs) (λ c κs. search needs) (λ c. search needs) returns-3)
+probe-slide-spec =
+    tie.close
+    (tie.spec returns returns-2 (λ c κs. search needs) (λ c κs. search needs) (λ c. search needs) (λ c. search needs) (λ c. search needs)
+    (λ c κs. search needs) (λ c κs. search needs) (λ c. search needs) returns-3)

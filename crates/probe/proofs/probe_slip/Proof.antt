@@ -13,7 +13,15 @@ returns-2 c = wrong-out _ _ _ _ _ (omega arith) (c .if2 .taken)
 
 returns-3 : tie.Need-returns-3
 unfolding slipRow
-returns-3 c = right _ _ _ _ _ (omega arith) (omega arith) _ (simp (← c .before .before .before .before .before .before .before .before .vec-at .ensures, ← c .before .before .before .before .before .before .before .vec-at2 .ensures, ← c .before .before .before .before .before .before .vec-at3 .ensures, ← c .before .before .before .slip .ensures) (c .before .before .fill-vec .ensures))
+returns-3 c =
+    let at-slip : tie.After-slip = search in
+    let at-vec-at3 : tie.After-vec-at3 = search in
+    right _ _ _ _ _ (omega arith) (omega arith) _ (simp
+    (← at-vec-at3 .before .before .vec-at .ensures, ← at-vec-at3 .before .vec-at2 .ensures, ← at-vec-at3 .vec-at3 .ensures, ← at-slip .slip .ensures)
+    (search needs))
 
 pub probe-slip-spec : {M : Type 1} → statement M
-probe-slip-spec = tie.close (tie.spec returns returns-2 (λ c κs. search needs) (λ c κs. search needs) (λ c κs. search needs) (λ c. search needs) (λ c κs. search needs) (λ c κs. search needs) (λ c. search needs) returns-3)
+probe-slip-spec =
+    tie.close
+    (tie.spec returns returns-2 (λ c κs. search needs) (λ c κs. search needs) (λ c κs. search needs) (λ c. search needs) (λ c κs. search needs)
+    (λ c κs. search needs) (λ c. search needs) returns-3)

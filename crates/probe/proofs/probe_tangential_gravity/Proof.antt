@@ -13,7 +13,10 @@ returns-2 c = wrong-out _ _ _ _ _ (omega arith) (c .if2 .taken)
 
 returns-3 : tie.Need-returns-3
 unfolding tangentialGravityRow
-returns-3 c = right _ _ _ _ _ (omega arith) (omega arith) _ (simp (← c .before .before .before .before .before .vec-at .ensures, ← c .before .before .before .tangential-gravity .ensures) (c .before .before .fill-vec .ensures))
+returns-3 c = right _ _ _ _ _ (omega arith) (omega arith) _
+    (simp (← c .before .before .before .before .before .vec-at .ensures, ← c .before .before .before .tangential-gravity .ensures) (search needs))
 
 pub probe-tangential-gravity-spec : {M : Type 1} → statement M
-probe-tangential-gravity-spec = tie.close (tie.spec returns returns-2 (λ c κs. search needs) (λ c κs. search needs) (λ c κs. search needs) (λ c. search needs) returns-3)
+probe-tangential-gravity-spec =
+    tie.close
+    (tie.spec returns returns-2 (λ c κs. search needs) (λ c κs. search needs) (λ c κs. search needs) (λ c. search needs) returns-3)

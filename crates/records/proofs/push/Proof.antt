@@ -20,29 +20,20 @@ Inv-loop list₀ n rec w at i₀ list i = (list ≡ paste list₀ at rec i) × (
 abbrev μ-loop : tie.MeasureT-loop
 μ-loop list₀ n rec w at i₀ list i = w - i
 
-div-if1 : tie.Need-div-if1 Inv-loop μ-loop
-div-if1 c = search needs
-
 mul-at : tie.Need-mul-at Inv-loop μ-loop
-mul-at c = let r = room (length (c .before .args .rec .now)) (c .before .args .n) (length (c .before .args .list .now)) (c .before .pre) (c .if1 .taken) in omega arith
+mul-at c = let r = room _ _ _ (c .before .pre) (c .if1 .taken) in omega arith
 
 loop-holds : tie.Need-loop-holds Inv-loop μ-loop
 loop-holds c = let a = c .before .args in (paste-zero (a .list .now) (a .n * length (a .rec .now)) (a .rec .now), zero-le, refl)
 
-mul-list : tie.Need-mul-list Inv-loop μ-loop
-mul-list c = search needs
-
-shared-slice-read-list : tie.Need-shared-slice-read-list Inv-loop μ-loop
-shared-slice-read-list c = search needs
-
 add-list : tie.Need-add-list Inv-loop μ-loop
-add-list c = let r = room (length (c .before .before .before .before .args .rec .now)) (c .before .before .before .before .args .n) (length (c .before .before .before .before .args .list .now)) (c .before .before .before .before .pre) (c .before .before .before .if1 .taken) in omega arith
+add-list c = let r = room _ _ _ (omega arith) (c .before .before .before .if1 .taken) in omega arith
 
 mul-list-2 : tie.Need-mul-list-2 Inv-loop μ-loop
-mul-list-2 c = let r = room (length (c .before .before .before .before .args .rec .now)) (c .before .before .before .before .args .n) (length (c .before .before .before .before .args .list .now)) (c .before .before .before .before .pre) (c .before .before .before .if1 .taken) in omega arith
+mul-list-2 c = let r = room _ _ _ (omega arith) (c .before .before .before .if1 .taken) in omega arith
 
 slice-write-list : tie.Need-slice-write-list Inv-loop μ-loop
-slice-write-list c = let r = room (length (c .before .before .before .before .args .rec .now)) (c .before .before .before .before .args .n) (length (c .before .before .before .before .args .list .now)) (c .before .before .before .before .pre) (c .before .before .before .if1 .taken) in omega arith
+slice-write-list c = let r = room _ _ _ (omega arith) (c .before .before .before .if1 .taken) in omega arith
 
 add-i : tie.Need-add-i Inv-loop μ-loop
 add-i c = omega arith
@@ -52,19 +43,20 @@ loop-less c = omega arith
 
 loop-again : tie.Need-loop-again Inv-loop μ-loop
 loop-again c =
-    let a = c .before .before .before .before .args in
-    let r = room (length (c .before .before .before .before .args .rec .now)) (c .before .before .before .before .args .n) (length (c .before .before .before .before .args .list .now)) (c .before .before .before .before .pre) (c .before .before .before .if1 .taken) in
-    let h : a .n * length (a .rec .now) + c .before .before .loop .i < length (a .list .now) = omega arith in (
-      rw (c .before .before .loop .inv .0, add-one) (paste-suc (a .list .now) (a .n * length (a .rec .now)) (a .rec .now) (c .before .before .loop .i) nan h (c .before .loop-test .taken)),
+    let at-loop = c .before .before in
+    let a = at-loop .before .before .args in
+    let r = room _ _ _ (omega arith) (at-loop .before .if1 .taken) in
+    let h : a .n * length (a .rec .now) + at-loop .loop .i < length (a .list .now) = omega arith in (
+      rw (at-loop .loop .inv .0, add-one) (paste-suc (a .list .now) (a .n * length (a .rec .now)) (a .rec .now) _ nan h (c .before .loop-test .taken)),
       omega arith,
-      simp length-set (c .before .before .loop .inv .2),
+      simp length-set (omega arith),
     )
 
 add-t18 : tie.Need-add-t18 Inv-loop μ-loop
 add-t18 c =
     let a = c .before .before .before .args in
-    let r = room (length (a .rec .now)) (a .n) (length (a .list .now)) (c .before .before .before .pre) (c .before .before .if1 .taken) in
-    let m : a .n * 1 ≤ a .n * length (a .rec .now) = mul-le-mul-left (a .n) (c .before .before .before .pre) in
+    let r = room (length (a .rec .now)) (a .n) (length (a .list .now)) (omega arith) (omega arith) in
+    let m : a .n * 1 ≤ a .n * length (a .rec .now) = mul-le-mul-left (a .n) (omega arith) in
     omega arith
 
 same-length : tie.Need-same-length Inv-loop μ-loop
@@ -74,7 +66,7 @@ returns : tie.Need-returns Inv-loop μ-loop
 returns c =
     let a = c .before .before .before .args in
     let e : c .before .loop .i ≡ length (a .rec .now) = omega arith in
-    pushes-done (length (a .rec .now)) (a .n) (a .list .now) (a .rec .now) _ (c .before .before .before .pre) refl (c .before .before .if1 .taken)
+    pushes-done (length (a .rec .now)) (a .n) (a .list .now) (a .rec .now) _ (omega arith) refl (omega arith)
     (c .before .loop .inv .0 ∙ ap (paste (a .list .now) (a .n * length (a .rec .now)) (a .rec .now)) e)
 
 returns-2 : tie.Need-returns-2 Inv-loop μ-loop
@@ -86,11 +78,11 @@ push-spec =
     (tie.spec
     Inv-loop
     μ-loop
-    div-if1
+    (λ c. search needs)
     mul-at
     loop-holds
-    mul-list
-    shared-slice-read-list
+    (λ c. search needs)
+    (λ c. search needs)
     add-list
     mul-list-2
     slice-write-list

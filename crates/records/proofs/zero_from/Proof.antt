@@ -19,12 +19,6 @@ abbrev μ-loop : tie.MeasureT-loop
 loop-holds : tie.Need-loop-holds Inv-loop μ-loop
 loop-holds c = (refl, refl)
 
-mul-list : tie.Need-mul-list Inv-loop μ-loop
-mul-list c = search needs
-
-slice-write-list : tie.Need-slice-write-list Inv-loop μ-loop
-slice-write-list c = search needs
-
 add-i : tie.Need-add-i Inv-loop μ-loop
 add-i c = omega arith
 
@@ -47,8 +41,8 @@ zero-from-spec =
     Inv-loop
     μ-loop
     loop-holds
-    mul-list
-    slice-write-list
+    (λ c. search needs)
+    (λ c. search needs)
     add-i
     loop-less
     loop-again

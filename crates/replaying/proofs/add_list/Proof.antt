@@ -1,4 +1,5 @@
 -- `add_list` adds double after double. The invariant: the sums of all are those from double i on, from the sums so far.
+use native.Mathlib.Omega.{arith}
 use Prim.Native.Nat.{ℕ, _+_, _-_, _%_, _^_, _≤_}
 use mathlib.Core.Path.{_≡_, refl, ap, _∙_}
 use lib.ListN.{length, drop, drop-of-length-le}
@@ -22,13 +23,13 @@ loop-again c =
     let l = c .before .before .before .before .before .loop in (
       search needs,
       l .inv .1
-          ∙ sums-next (record { a = l .a; b = l .b }) (c .before .before .before .before .before .before .before .args .list .now) (l .i) (c .before .before .before .before .loop-test .taken)
-          (c .before .wrapping-add-u64 .ensures ∙ ap (λ (w : ℕ). (l .a + w) % 2 ^ 64) (c .before .before .bits .ensures)) (c .wrapping-add-u642 .ensures),
+          ∙ sums-next (record { a = l .a; b = l .b }) _ (l .i) (omega arith)
+          (c .before .wrapping-add-u64 .ensures ∙ ap (λ (w : ℕ). (l .a + w) % 2 ^ 64) (search needs)) (c .wrapping-add-u642 .ensures),
     )
 
 returns : tie.Need-returns Inv-loop μ-loop
 unfolding sumsOf
-returns c = rw (c .before .loop .inv .1, drop-of-length-le (c .before .before .before .args .list .now) (c .loop-test .left))
+returns c = rw (c .before .loop .inv .1, drop-of-length-le _ (c .loop-test .left))
 
 pub add-list-spec : {M : Type 1} → statement M
 add-list-spec =

@@ -13,11 +13,11 @@ float-to-bits-result c = subst T (sym (c .if1 .taken) ∙ eq-self _) tt
 
 returns : tie.Need-returns
 unfolding bitsOf
-returns c = rw (not-true (isNan (c .before .args .v)) (sym (eq-self _) ∙ c .if1 .taken))
+returns c = rw (not-true (isNan _) (sym (eq-self _) ∙ c .if1 .taken))
 
 returns-2 : tie.Need-returns-2
 unfolding bitsOf
-returns-2 c = rw (not-false (isNan (c .before .args .v)) (sym (eq-self _) ∙ c .if1 .left))
+returns-2 c = rw (not-false (isNan _) (sym (eq-self _) ∙ c .if1 .left))
 
 pub bits-spec : {M : Type 1} → statement M
 bits-spec = tie.close (tie.spec float-to-bits-result returns returns-2)

@@ -25,7 +25,8 @@ module _ (e : List ℕ) (c p : ℕ) where
   outcome cs ps = sameOf e (settleInputOf (drop 200 e) cs ps)
 
   -- the parts of longer lists that are lent
-  lent : (rc rp : ℕ) {b : Bool} → c ≤ rc → p ≤ rp → b ≡ outcome (take c (replicate rc (ofBits binary64 4607182418800017408))) (take p (replicate rp (ofBits binary64 4607182418800017408)))
+  lent : (rc rp : ℕ) {b : Bool} → c ≤ rc → p ≤ rp → b ≡ outcome (take c (replicate rc (ofBits binary64 4607182418800017408)))
+      (take p (replicate rp (ofBits binary64 4607182418800017408)))
       → b ≡ outcome (replicate c (dec 1 1)) (replicate p (dec 1 1))
   lent rc rp i j t = t ∙ ap₂ outcome (take-replicate c rc _ i ∙ ap (replicate c) is-one) (take-replicate p rp _ j ∙ ap (replicate p) is-one)
 
@@ -44,11 +45,31 @@ returns-2 c = rw (le-leb 200 _ (c .before .before .if1 .left), ← c .before .wo
 
 returns-3 : tie.Need-returns-3
 unfolding replayedOf intact
-returns-3 c = rw (le-leb 200 _ (c .before .before .before .before .before .if1 .left), ← c .before .before .before .before .word .ensures, eq-eqb _ _ (c .before .before .before .if2 .left), ← c .before .before .word2 .ensures, lt-leb _ 1300 (c .if3 .taken))
+returns-3 c =
+    let at-word2 : tie.After-word2 = search in
+    let at-if2 = at-word2 .before in
+    rw (
+      le-leb 200 _ (at-if2 .before .before .if1 .left),
+      ← at-if2 .before .word .ensures,
+      eq-eqb _ _ (at-if2 .if2 .left),
+      ← at-word2 .word2 .ensures,
+      lt-leb _ 1300 (c .if3 .taken),
+    )
 
 returns-4 : tie.Need-returns-4
 unfolding replayedOf intact
-returns-4 c = rw (le-leb 200 _ (c .before .before .before .before .before .before .if1 .left), ← c .before .before .before .before .before .word .ensures, eq-eqb _ _ (c .before .before .before .before .if2 .left), ← c .before .before .before .word2 .ensures, le-leb _ 1300 (c .before .if3 .left), ← c .before .before .word3 .ensures, lt-leb _ 7692 (c .if4 .taken))
+returns-4 c =
+    let at-word3 : tie.After-word3 = search in
+    let at-if2 : tie.Else2 = search in
+    rw (
+      le-leb 200 _ (at-if2 .before .before .if1 .left),
+      ← at-if2 .before .word .ensures,
+      eq-eqb _ _ (at-if2 .if2 .left),
+      ← at-word3 .before .word2 .ensures,
+      le-leb _ 1300 (c .before .if3 .left),
+      ← at-word3 .word3 .ensures,
+      lt-leb _ 7692 (c .if4 .taken),
+    )
 
 slice-aggregate-gives-same : tie.Need-slice-aggregate-gives-same
 slice-aggregate-gives-same c = sym (length-take-le _ _ (search needs))
@@ -56,15 +77,22 @@ slice-aggregate-gives-same c = sym (length-take-le _ _ (search needs))
 slice-aggregate-gives-same-2 : tie.Need-slice-aggregate-gives-same-2
 slice-aggregate-gives-same-2 c = sym (length-take-le _ _ (search needs))
 
-replayed : (g : tie.After-gives-same) → cond (g .gives-same .result) Same Differs ≡ replayedOf (g .before .before .before .before .before .before .before .before .before .before .before .args .entry .now)
+abbrev counted : tie.After-gives-same → tie.After-word3
+counted g = g .before .before .before .before .before
+
+abbrev start : tie.After-word3 → tie.Start
+start c = c .before .before .before .before .before .before
+
+replayed : (g : tie.After-gives-same) → cond (g .gives-same .result) Same Differs ≡ replayedOf (start (counted g) .args .entry .now)
 replayed g =
-    let e = g .before .before .before .before .before .before .before .before .before .before .before .args .entry .now in
-    let c = g .before .before .before .before .before .before .word2 in
-    let p = g .before .before .before .before .before .word3 in
-    let i = g .before .before .before .before .if3 .left in
-    let j = g .before .before .before .if4 .left in
-    replays e (c .result) (p .result) (g .before .before .before .before .before .before .before .before .before .if1 .left) (sym (g .before .before .before .before .before .before .before .before .word .ensures) ∙ g .before .before .before .before .before .before .before .if2 .left) (c .ensures) (p .ensures) i j
-    (lent e (c .result) (p .result) 1300 7692 i j (g .gives-same .ensures))
+    let p = counted g in
+    let t = p .before .before in
+    let l = g .before .before .before in
+    let c = p .before .word2 in
+    let i = l .before .if3 .left in
+    let j = l .if4 .left in
+    replays _ _ _ (t .before .before .if1 .left) (sym (t .before .word .ensures) ∙ t .if2 .left) (c .ensures) (p .word3 .ensures) i j
+    (lent _ _ _ 1300 7692 i j (g .gives-same .ensures))
 
 returns-5 : tie.Need-returns-5
 returns-5 c = ap (λ (b : Bool). cond b Same Differs) (sym (c .if5 .taken)) ∙ replayed (c .before .before .before)

@@ -4,7 +4,7 @@ use Rattle.replaying.proofs.same_counts.Statement.{statement}
 use Rattle.replaying.proofs.same_counts.Tie as tie
 
 returns : tie.Need-returns
-returns c = rw (c .same-words .ensures, c .before .before .termination-number .ensures)
+returns c = cc
 
 pub same-counts-spec : {M : Type 1} → statement M
 same-counts-spec =

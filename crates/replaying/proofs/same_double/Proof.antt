@@ -5,7 +5,7 @@ use Rattle.replaying.proofs.same_double.Statement.{statement}
 use Rattle.replaying.proofs.same_double.Tie as tie
 
 returns : tie.Need-returns
-returns c = rw (eq-self (c .before .args .v), c .bits .ensures)
+returns c = rw (eq-self _, c .bits .ensures)
 
 pub same-double-spec : {M : Type 1} → statement M
 same-double-spec = tie.close (tie.spec (λ c κs. search needs) returns)

@@ -1,4 +1,5 @@
 -- `same_doubles` compares double after double. The invariant: all agree exactly where those from double k on do.
+use native.Mathlib.Omega.{arith}
 use Prim.Native.Nat.{_+_, _-_, _≤_}
 use native.Mathlib.Nat.{add-zero}
 use mathlib.Core.Path.{_≡_}
@@ -20,19 +21,37 @@ loop-holds c = (search needs, rw add-zero)
 
 loop-again : tie.Need-loop-again Inv-loop μ-loop
 loop-again c =
-    let a = c .before .before .before .before .before .before .before .before .args in
-    let l = c .before .before .before .before .before .loop in
-    (search needs, rw (l .inv .1, agrees-next (a .entry .now) (a .i) (a .doubles .now) (l .k) (c .before .before .before .before .loop-test .taken), ← c .before .before .word .ensures, ← c .before .same-double .ensures, c .if1 .taken))
+    let at-word : tie.After-word Inv-loop μ-loop = search in
+    let at-loop : tie.At-loop Inv-loop μ-loop = search in
+    let a = at-loop .before .before .before .args in
+    let l = at-loop .loop in (
+      search needs,
+      rw (
+        l .inv .1,
+        agrees-next (a .entry .now) (a .i) (a .doubles .now) (l .k) (omega arith),
+        ← at-word .word .ensures,
+        ← c .before .same-double .ensures,
+        c .if1 .taken,
+      ),
+    )
 
 returns : tie.Need-returns Inv-loop μ-loop
 returns c =
-    let a = c .before .before .before .before .before .before .before .before .args in
-    let l = c .before .before .before .before .before .loop in
-    rw (l .inv .1, agrees-next (a .entry .now) (a .i) (a .doubles .now) (l .k) (c .before .before .before .before .loop-test .taken), ← c .before .before .word .ensures, ← c .before .same-double .ensures, c .if1 .left)
+    let at-word : tie.After-word Inv-loop μ-loop = search in
+    let at-loop : tie.At-loop Inv-loop μ-loop = search in
+    let a = at-loop .before .before .before .args in
+    let l = at-loop .loop in
+    rw (
+      l .inv .1,
+      agrees-next (a .entry .now) (a .i) (a .doubles .now) (l .k) (omega arith),
+      ← at-word .word .ensures,
+      ← c .before .same-double .ensures,
+      c .if1 .left,
+    )
 
 returns-2 : tie.Need-returns-2 Inv-loop μ-loop
 unfolding noNan holds
-returns-2 c = rw (c .before .loop .inv .1, drop-of-length-le (c .before .before .before .before .args .doubles .now) (c .loop-test .left))
+returns-2 c = rw (c .before .loop .inv .1, drop-of-length-le _ (c .loop-test .left))
 
 pub same-doubles-spec : {M : Type 1} → statement M
 same-doubles-spec =

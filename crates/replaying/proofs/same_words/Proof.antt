@@ -1,4 +1,5 @@
 -- `same_words` compares word after word. The invariant: all hold exactly where those from word k on do.
+use native.Mathlib.Omega.{arith}
 use Prim.Native.Nat.{_+_, _-_, _≤_}
 use native.Mathlib.Nat.{add-zero}
 use mathlib.Core.Path.{_≡_, sym, _∙_}
@@ -21,19 +22,21 @@ loop-holds c = (search needs, rw add-zero)
 
 returns : tie.Need-returns Inv-loop μ-loop
 returns c =
-    let a = c .before .before .before .before .before .before .before .args in
-    let l = c .before .before .before .before .loop in
-    rw (l .inv .1, holds-next (a .entry .now) (a .i) (a .words .now) (l .k) (c .before .before .before .loop-test .taken), ne-eqb _ _ (λ q. c .if1 .taken (q ∙ sym (c .before .word .ensures))))
+    let at-loop : tie.At-loop Inv-loop μ-loop = search in
+    let a = at-loop .before .before .before .args in
+    let l = at-loop .loop in
+    rw (l .inv .1, holds-next (a .entry .now) (a .i) (a .words .now) (l .k) (omega arith), ne-eqb _ _ (λ q. c .if1 .taken (q ∙ sym (c .before .word .ensures))))
 
 loop-again : tie.Need-loop-again Inv-loop μ-loop
 loop-again c =
-    let a = c .before .before .before .before .before .before .before .args in
-    let l = c .before .before .before .before .loop in
-    (search needs, rw (l .inv .1, holds-next (a .entry .now) (a .i) (a .words .now) (l .k) (c .before .before .before .loop-test .taken), eq-eqb _ _ (c .if1 .left ∙ c .before .word .ensures)))
+    let at-loop : tie.At-loop Inv-loop μ-loop = search in
+    let a = at-loop .before .before .before .args in
+    let l = at-loop .loop in
+    (search needs, rw (l .inv .1, holds-next (a .entry .now) (a .i) (a .words .now) (l .k) (omega arith), eq-eqb _ _ (c .if1 .left ∙ c .before .word .ensures)))
 
 returns-2 : tie.Need-returns-2 Inv-loop μ-loop
 unfolding holds
-returns-2 c = rw (c .before .loop .inv .1, drop-of-length-le (c .before .before .before .before .args .words .now) (c .loop-test .left))
+returns-2 c = rw (c .before .loop .inv .1, drop-of-length-le _ (c .loop-test .left))
 
 pub same-words-spec : {M : Type 1} → statement M
 same-words-spec =

@@ -1,7 +1,6 @@
 -- One pass of the ground: how far it has come at each place, and what it comes to where it ends.
 use borrow.Author.Needs.{needs}
 use native.Mathlib.Omega.{arith}
-use mathlib.Core.Path.{_∙_}
 use mathlib.Core.Bool.{Bool}
 use mathlib.Core.List.{List, []}
 use lib.Ieee.{Float}
@@ -95,47 +94,20 @@ count-step-requires c κs =
     (omega (arith, p .1 .0, p .1 .1 .limit), (p .1 .1 .work, rw (c .step-on .ensures) (pass-at-most-200 _ _)))
 
 push-due-requires : tie.Need-push-due-requires
-push-due-requires c κs = start (c .before .before .before) .pre .0
-
-enum-known-sampled : tie.Need-enum-known-sampled
-enum-known-sampled c = search needs
-
-same-length : tie.Need-same-length
-same-length c = c .before .before .before .before .before .push-due .kept .1 .1 .1 .0
+push-due-requires c κs = let s : tie.Start = search in s .pre .0
 
 returns : tie.Need-returns
 returns c lc =
-    let p = c .before .before .before .before .before in
+    let p : tie.After-push-due = search in
     ended (due-stopped _ _ _ _ (came-step p lc) (p .push-due .ensures) (c .before .sampled .given .1))
 
-enum-known-sampled-2 : tie.Need-enum-known-sampled-2
-enum-known-sampled-2 c = search needs
-
 look-requires : tie.Need-look-requires
-look-requires c κs = start (step (push (c .before .before .before))) .pre .0
-
-enum-known-under : tie.Need-enum-known-under
-enum-known-under c = search needs
-
-enum-told : tie.Need-enum-told
-enum-told c = search needs
-
-same-length-2 : tie.Need-same-length-2
-same-length-2 c = came-push (on-push (c .before .before)) [] .points .long
+look-requires c κs = let p : tie.After-push-due = search in start (step p) .pre .0
 
 returns-2 : tie.Need-returns-2
 returns-2 c lc =
     let l = c .before .before in
     ended (spot-off _ _ _ (came-push (on-push l) lc) (l .look .ensures) (c .enum-told .given .1))
-
-enum-known-t4 : tie.Need-enum-known-t4
-enum-known-t4 c = search needs
-
-enum-told-2 : tie.Need-enum-told-2
-enum-told-2 c = search needs
-
-same-length-3 : tie.Need-same-length-3
-same-length-3 c = came-look (seen (c .before .before)) [] .points .long
 
 returns-3 : tie.Need-returns-3
 returns-3 c lc =
@@ -147,34 +119,15 @@ push-point-requires c κs =
     let l = look (seen (test (good (c .before .before)))) in
     start (step (push (on-push l))) .pre .0
 
-enum-known-rested : tie.Need-enum-known-rested
-enum-known-rested c = search needs
-
-same-length-4 : tie.Need-same-length-4
-same-length-4 c =
-    let p = c .before .before .before .before .before in
-    p .push-point .kept .1 .1 .0 ∙ came-held p [] .points .long
-
 returns-4 : tie.Need-returns-4
 returns-4 c lc =
-    let p = c .before .before .before .before .before in
+    let p : tie.After-push-point = search in
     ended (point-stopped _ _ _ (came-held p lc) (p .push-point .ensures) (c .before .rested .given .1))
-
-enum-known-rested-2 : tie.Need-enum-known-rested-2
-enum-known-rested-2 c = search needs
-
-same-length-5 : tie.Need-same-length-5
-same-length-5 c =
-    let p = c .before .before .before .before .before in
-    p .push-point .kept .1 .1 .0 ∙ came-held p [] .points .long
 
 returns-5 : tie.Need-returns-5
 returns-5 c lc =
-    let p = c .before .before .before .before .before in
+    let p : tie.After-push-point = search in
     ended (point-pushed _ _ _ (came-held p lc) (p .push-point .ensures) (c .before .rested2 .given .1))
-
-same-length-6 : tie.Need-same-length-6
-same-length-6 c = came-test (good (c .before .before)) [] .points .long
 
 returns-6 : tie.Need-returns-6
 returns-6 c lc =
@@ -190,29 +143,29 @@ ground-step-spec =
     count-step-requires
     (λ c κs. tt)
     push-due-requires
-    enum-known-sampled
-    same-length
+    (λ c. search needs)
+    (λ c. returns c [] .points .long)
     returns
-    enum-known-sampled-2
+    (λ c. search needs)
     look-requires
-    enum-known-under
-    enum-told
-    same-length-2
+    (λ c. search needs)
+    (λ c. search needs)
+    (λ c. returns-2 c [] .points .long)
     returns-2
     (λ c κs. tt)
     (λ c κs. tt)
-    enum-known-t4
-    enum-told-2
-    same-length-3
+    (λ c. search needs)
+    (λ c. search needs)
+    (λ c. returns-3 c [] .points .long)
     returns-3
     (λ c κs. tt)
     push-point-requires
-    enum-known-rested
-    same-length-4
+    (λ c. search needs)
+    (λ c. returns-4 c [] .points .long)
     returns-4
-    enum-known-rested-2
-    same-length-5
+    (λ c. search needs)
+    (λ c. returns-5 c [] .points .long)
     returns-5
     (λ c κs. tt)
-    same-length-6
+    (λ c. returns-6 c [] .points .long)
     returns-6)

@@ -9,10 +9,10 @@ use Rattle.rolling.proofs.contact_step.Tie as tie
 returns : tie.Need-returns
 unfolding contactStepOf patchOf ofBits round
 returns c =
-    let at-length-squared = c .before .before .before in
-    let at-dot2 = at-length-squared .before .before .before in
-    let at-scale = at-dot2 .before .before .before in
-    let at-radius-m = at-scale .before .before .before in
+    let at-length-squared : tie.After-length-squared = search in
+    let at-dot2 : tie.After-dot2 = search in
+    let at-scale : tie.After-scale = search in
+    let at-radius-m : tie.After-radius-m = search in
     let slides = Slow.same _ _ _ (at-length-squared .length-squared .ensures)
     (c .before .before .slip-root .ensures .0) ∙ c .before .if1 .taken in simp (
       ← at-radius-m .before .unit .ensures,
@@ -30,10 +30,10 @@ returns c =
 returns-2 : tie.Need-returns-2
 unfolding contactStepOf ofBits round
 returns-2 c =
-    let at-slip-root = c .before .before .before in
-    let at-patch-of = at-slip-root .before .before .before in
-    let at-sub = at-patch-of .before .before .before in
-    let at-radius-m = at-sub .before .before .before .before in
+    let at-slip-root : tie.After-slip-root = search in
+    let at-patch-of : tie.After-patch-of = search in
+    let at-sub : tie.After-sub = search in
+    let at-radius-m : tie.After-radius-m = search in
     let rolls = Slow.same _ _ _ (at-slip-root .before .length-squared .ensures)
     (at-slip-root .slip-root .ensures .0) ∙ c .before .before .if1 .left in simp (
       ← at-radius-m .before .unit .ensures,
@@ -52,7 +52,7 @@ returns-2 c =
 slide-step-requires : tie.Need-slide-step-requires
 unfolding ofBits round
 slide-step-requires c κs =
-    let at-slip = c .before .before .before in (
+    let at-slip : tie.After-slip = search in (
       unfold patchOf in rw (at-slip .before .patch-of .ensures) (at-slip .slip .ensures),
       Slow.length _ _ _
           (c .before .before .length-squared .ensures) (c .before .slip-root .ensures .1 (c .if1 .taken)),

@@ -7,8 +7,8 @@ use Rattle.rolling.proofs.rate_under.Tie as tie
 returns : tie.Need-returns
 unfolding rollRate
 returns c =
-    let at-add = c .before .before .before in
-    let at-slope-of = at-add .before .before .before in
+    let at-add : tie.After-add = search in
+    let at-slope-of : tie.After-slope-of = search in
     let h = at-slope-of .before .before .pre in simp (
       ← h,
       Fields.n-of,

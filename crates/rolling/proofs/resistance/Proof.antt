@@ -8,14 +8,14 @@ use Rattle.rolling.proofs.resistance.Tie as tie
 returns : tie.Need-returns
 unfolding resistanceOf ofBits round
 returns c =
-    let at-start = c .before .before .before in
+    let at-start : tie.Start = search in
     let h = at-start .pre in simp (← h .0, ← h .1, ← c .before .scale .ensures, ← c .div .ensures, c .before .before .if1 .taken)
 
 returns-2 : tie.Need-returns-2
 unfolding resistanceOf decelOf rollPatchOf rollingFriction ofBits round
 returns-2 c =
-    let at-decel = c .before .before .before in
-    let at-if1 = at-decel .before .before .before in
+    let at-decel : tie.After-decel = search in
+    let at-if1 : tie.Else1 = search in
     let h = at-if1 .before .pre in simp (
       ← h .0,
       ← at-decel .decel .ensures,

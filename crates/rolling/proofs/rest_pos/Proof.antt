@@ -7,8 +7,8 @@ use Rattle.rolling.proofs.rest_pos.Tie as tie
 returns : tie.Need-returns
 unfolding restPos rollPatchOf ofBits round
 returns c =
-    let at-scale2 = c .before .before .before in
-    let at-dot = at-scale2 .before .before .before in
+    let at-scale2 : tie.After-scale2 = search in
+    let at-dot : tie.After-dot = search in
     simp (
       ← at-dot .before .slope-of .ensures,
       ← at-dot .dot .ensures,

@@ -6,7 +6,7 @@ use Rattle.rolling.proofs.rest_spin.Tie as tie
 returns : tie.Need-returns
 unfolding restSpin rollPatchOf
 returns c =
-    let at-scale = c .before .before .before in
+    let at-scale : tie.After-scale = search in
     simp (← at-scale .scale .ensures, ← c .before .before .scale2 .ensures, ← c .before .add .ensures, ← c .saturate-pivot .ensures)
 
 pub rest-spin-spec : {M : Type 1} → statement M

@@ -8,10 +8,10 @@ use Rattle.rolling.proofs.roll_by.Tie as tie
 returns : tie.Need-returns
 unfolding rollBy ofBits round
 returns c =
-    let at-add-scaled4 = c .before .before .before in
-    let at-add-scaled3 = at-add-scaled4 .before .before .before .before in
-    let at-add-scaled2 = at-add-scaled3 .before .before .before .before in
-    let at-add-scaled = at-add-scaled2 .before .before .before .before in
+    let at-add-scaled4 : tie.After-add-scaled4 = search in
+    let at-add-scaled3 : tie.After-add-scaled3 = search in
+    let at-add-scaled2 : tie.After-add-scaled2 = search in
+    let at-add-scaled : tie.After-add-scaled = search in
     stages _ _ _ _ (at-add-scaled .before .pre) (at-add-scaled .add-scaled .ensures) (at-add-scaled2 .before .rate-under .ensures)
     (at-add-scaled2 .add-scaled2 .ensures) (at-add-scaled3 .before .rate-under2 .ensures) (at-add-scaled3 .add-scaled3 .ensures)
     (at-add-scaled4 .before .rate-under3 .ensures) (at-add-scaled4 .add-scaled4 .ensures) (c .before .before .add-scaled5 .ensures)

@@ -6,12 +6,12 @@ use Rattle.rolling.proofs.roll_on.Tie as tie
 returns : tie.Need-returns
 unfolding rollOn
 returns c =
-    let at-roll-by = c .before .before .before .before in
+    let at-roll-by : tie.After-roll-by = search in
     simp (← at-roll-by .roll-by .ensures, ← c .rolled-spin .ensures)
 
 rate-under-requires : tie.Need-rate-under-requires
 rate-under-requires c κs =
-    let at-start = c .before .before .before in
+    let at-start : tie.Start = search in
     at-start .pre
 
 roll-by-requires : tie.Need-roll-by-requires

@@ -9,9 +9,9 @@ use Rattle.rolling.proofs.roll_step.Tie as tie
 returns : tie.Need-returns
 unfolding rollStep ofBits round
 returns c =
-    let at-stops = c .before .before .before in
-    let at-decel = at-stops .before .before .before in
-    let at-heading-of = at-decel .before .before .before in
+    let at-stops : tie.After-stops = search in
+    let at-decel : tie.After-decel = search in
+    let at-heading-of : tie.After-heading-of = search in
     simp (
       Fields.slope-of,
       Fields.decel-of,
@@ -29,9 +29,9 @@ returns c =
 returns-2 : tie.Need-returns-2
 unfolding rollStep ofBits round
 returns-2 c =
-    let at-stops = c .before .before .before in
-    let at-decel = at-stops .before .before .before in
-    let at-heading-of = at-decel .before .before .before in
+    let at-stops : tie.After-stops = search in
+    let at-decel : tie.After-decel = search in
+    let at-heading-of : tie.After-heading-of = search in
     simp (
       Fields.slope-of,
       Fields.decel-of,
@@ -48,8 +48,8 @@ returns-2 c =
 resistance-requires : tie.Need-resistance-requires
 unfolding decelOf rollPatchOf rollingFriction ofBits round
 resistance-requires c κs =
-    let at-decel = c .before .before .before .before in
-    let at-length = at-decel .before .before .before .before in
+    let at-decel : tie.After-decel = search in
+    let at-length : tie.After-length = search in
     (at-length .length .ensures, at-decel .decel .ensures)
 
 roll-on-requires : tie.Need-roll-on-requires

@@ -6,7 +6,7 @@ use Rattle.rolling.proofs.rolled_spin.Tie as tie
 returns : tie.Need-returns
 unfolding rolledSpin rollPatchOf
 returns c =
-    let at-scale = c .before .before .before in
+    let at-scale : tie.After-scale = search in
     simp (
       ← at-scale .before .before .saturate-pivot .ensures,
       ← at-scale .before .dot .ensures,

@@ -7,7 +7,7 @@ use Rattle.rolling.proofs.slide_step.Tie as tie
 returns : tie.Need-returns
 unfolding slideStep patchSlip
 returns c =
-    let at-slid-to = c .before .before .before .before .before .before in
+    let at-slid-to : tie.After-slid-to = search in
     simp (← at-slid-to .before .slide-from .ensures, ← at-slid-to .slid-to .ensures)
 
 slide-from-requires : tie.Need-slide-from-requires

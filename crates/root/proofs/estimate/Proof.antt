@@ -8,9 +8,6 @@ use borrow.Author.Needs.{needs}
 use Rattle.root.proofs.estimate.Statement.{statement}
 use Rattle.root.proofs.estimate.Tie as tie
 
-sub-y0 : tie.Need-sub-y0
-sub-y0 c = search needs
-
 float-from-bits-y0 : tie.Need-float-from-bits-y0
 float-from-bits-y0 c = no-nan _ (omega arith)
 
@@ -29,7 +26,7 @@ pub estimate-spec : {M : Type 1} → statement M
 estimate-spec =
     tie.close
     (tie.spec
-    sub-y0
+    (λ c. search needs)
     float-from-bits-y0
     returns
     cut-requires

@@ -28,9 +28,6 @@ float-to-bits-b c = not-nan _ (c .if1 .left)
 returns-2 : tie.Need-returns-2
 returns-2 c = at-zero _ (held (c .before .before)) (c .if2 .taken)
 
-positive-requires : tie.Need-positive-requires
-positive-requires c κs = search needs
-
 float-from-bits-result : tie.Need-float-from-bits-result
 float-from-bits-result c = no-nan _ (omega (arith, c .positive .ensures .finite))
 
@@ -45,8 +42,8 @@ returns-5 c = at-minus-zero _ (held (c .before .before .before .before .before))
 
 returns-6 : tie.Need-returns-6
 returns-6 c =
-    let a = c .before .before .before .before in
-    at-minus _ (held (a .before)) (not-nan _ (a .if1 .left)) (c .before .before .if3 .left) (c .before .if4 .left) (c .if5 .left)
+    let a : tie.Else1 = search in
+    at-minus _ (held (a .before)) (not-nan _ (a .if1 .left)) (omega arith) (c .before .if4 .left) (c .if5 .left)
 
 pub exact-spec : {M : Type 1} → statement M
 exact-spec =
@@ -55,7 +52,7 @@ exact-spec =
     returns
     float-to-bits-b
     returns-2
-    positive-requires
+    (λ c κs. search needs)
     float-from-bits-result
     returns-3
     returns-4

@@ -32,14 +32,14 @@ returns-3 c = (none _, rw (c .before .before .if1 .left, le-ltb _ _ (c .before .
 returns-4 : tie.Need-returns-4
 unfolding guessOf
 returns-4 c =
-    let n = c .before .before in
+    let n : tie.Else3 = search in
     (none _, rw (← c .before .estimate .ensures, n .before .before .if1 .left, le-ltb _ _ (n .before .if2 .left), lt-leb _ _ (n .if3 .left), c .if4 .taken))
 
 returns-6 : tie.Need-returns-6
 unfolding guessOf
 returns-6 c =
-    let e = c .before .before in
-    let n = e .before .before in (
+    let e : tie.Else4 = search in
+    let n : tie.Else3 = search in (
       none _,
       rw (
         ← e .before .estimate .ensures,
@@ -55,20 +55,14 @@ returns-6 c =
 float-to-bits-b : tie.Need-float-to-bits-b
 float-to-bits-b c = not-nan _ (c .if1 .left)
 
-estimate-requires : tie.Need-estimate-requires
-estimate-requires c κs = search needs
-
 float-to-bits-r : tie.Need-float-to-bits-r
 float-to-bits-r c = not-nan _ (c .if4 .left)
-
-sure-requires : tie.Need-sure-requires
-sure-requires c κs = search needs
 
 returns-5 : tie.Need-returns-5
 unfolding guessOf
 returns-5 c =
-    let e = c .before .before in
-    let a = e .before .before in
+    let e : tie.Else4 = search in
+    let a : tie.Else3 = search in
     let s = c .before .sure .ensures .0 (c .if5 .taken) in (
       record { finite = s .finite; is = λ h. s .is ∙ ap rootOf (ofBits-toBits binary64 _ (subst T (sym (a .before .before .before .good .0 .1)) tt)) },
       rw (
@@ -90,9 +84,9 @@ guess-spec =
     float-to-bits-b
     returns-2
     returns-3
-    estimate-requires
+    (λ c κs. search needs)
     returns-4
     float-to-bits-r
-    sure-requires
+    (λ c κs. search needs)
     returns-5
     returns-6)

@@ -18,31 +18,13 @@ at c = parts (c .args .r) (c .pre .1 .1)
 mul-k : tie.Need-mul-k
 mul-k c = omega (arith, at c)
 
-mul-n : tie.Need-mul-n
-mul-n c = search needs
-
-add-n : tie.Need-add-n
-add-n c = search needs
-
 returns : tie.Need-returns
 unfolding isNear
 returns c = (λ e. absurd (true≢false (sym e)), rw (lt-ltb _ _ (c .if1 .taken)))
 
-mul-if2 : tie.Need-mul-if2
-mul-if2 c = search needs
-
 returns-2 : tie.Need-returns-2
 unfolding isNear
 returns-2 c = (λ e. absurd (true≢false (sym e)), rw (le-ltb _ _ (c .before .if1 .left), le-leb _ _ (c .if2 .taken)))
-
-mul-h : tie.Need-mul-h
-mul-h c = search needs
-
-mul-l : tie.Need-mul-l
-mul-l c = search needs
-
-add-l : tie.Need-add-l
-add-l c = search needs
 
 mul-p : tie.Need-mul-p
 mul-p c = omega (arith, at (c .before .before))
@@ -60,14 +42,11 @@ returns-3 : tie.Need-returns-3
 unfolding isNear
 returns-3 c = (λ e. absurd (true≢false (sym e)), rw (le-ltb _ _ (c .before .before .if1 .left), lt-leb _ _ (c .before .if2 .left), lt-ltb _ _ (c .if3 .taken)))
 
-mul-result : tie.Need-mul-result
-mul-result c = search needs
-
 returns-4 : tie.Need-returns-4
 unfolding isNear
 returns-4 c =
-    let a = c .before .before .before in (
-      λ e. tested (a .args .m) (a .args .r) _ (a .pre .1 .0) (a .pre .1 .1) (omega (arith, c .before .before .if1 .left)) (c .if3 .left) (ltb-true _ _ e),
+    let a : tie.Start = search in (
+      λ e. tested (a .args .m) (a .args .r) _ (a .pre .1 .0) (a .pre .1 .1) (omega arith) (c .if3 .left) (ltb-true _ _ e),
       rw (le-ltb _ _ (c .before .before .if1 .left), lt-leb _ _ (c .before .if2 .left), le-ltb _ _ (c .if3 .left)),
     )
 
@@ -76,18 +55,18 @@ is-near-spec =
     tie.close
     (tie.spec
     mul-k
-    mul-n
-    add-n
+    (λ c. search needs)
+    (λ c. search needs)
     returns
-    mul-if2
+    (λ c. search needs)
     returns-2
-    mul-h
-    mul-l
-    add-l
+    (λ c. search needs)
+    (λ c. search needs)
+    (λ c. search needs)
     mul-p
     mul-p-2
     add-p
     add-p-2
     returns-3
-    mul-result
+    (λ c. search needs)
     returns-4)

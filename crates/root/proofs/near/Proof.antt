@@ -9,36 +9,18 @@ use Rattle.root.proofs.near.Tie as tie
 float-from-bits-estimate : tie.Need-float-from-bits-estimate
 float-from-bits-estimate c = no-nan _ (omega arith)
 
-estimate-requires : tie.Need-estimate-requires
-estimate-requires c κs = search needs
-
-digits-requires : tie.Need-digits-requires
-digits-requires c κs = search needs
-
-returns : tie.Need-returns
-returns c = search needs
-
 float-to-bits-b : tie.Need-float-to-bits-b
-float-to-bits-b c = not-nan (c .before .estimate .result) (c .if1 .left)
-
-add-corrected : tie.Need-add-corrected
-add-corrected c = search needs
-
-corrected-requires : tie.Need-corrected-requires
-corrected-requires c κs = search needs
-
-returns-2 : tie.Need-returns-2
-returns-2 c = search needs
+float-to-bits-b c = not-nan _ (c .if1 .left)
 
 pub near-spec : {M : Type 1} → statement M
 near-spec =
     tie.close
     (tie.spec
     float-from-bits-estimate
-    estimate-requires
-    digits-requires
-    returns
+    (λ c κs. search needs)
+    (λ c κs. search needs)
+    (λ c. search needs)
     float-to-bits-b
-    add-corrected
-    corrected-requires
-    returns-2)
+    (λ c. search needs)
+    (λ c κs. search needs)
+    (λ c. search needs))

@@ -8,29 +8,17 @@ use Rattle.root.specs.Guess.{isSure}
 use Rattle.root.proofs.sure.Statement.{statement}
 use Rattle.root.proofs.sure.Tie as tie
 
-add-v : tie.Need-add-v
-add-v c = search needs
-
 returns : tie.Need-returns
 unfolding isSure
 returns c = (λ e. absurd (true≢false (sym e)), rw (ne-eqb _ _ (c .if1 .taken)))
 
-radicand-requires : tie.Need-radicand-requires
-radicand-requires c κs = search needs
-
-add-is-near : tie.Need-add-is-near
-add-is-near c = search needs
-
-is-near-requires : tie.Need-is-near-requires
-is-near-requires c κs = search needs
-
 returns-2 : tie.Need-returns-2
 unfolding isSure
 returns-2 c =
-    let a = c .before .before in (
+    let a : tie.Else1 = search in (
       λ e. tested-bits _ _ _ (a .before .pre .0) (a .before .pre .1) (c .before .radicand .ensures) (a .if1 .left) (c .is-near .ensures .0 e),
       rw (eq-eqb _ _ (a .if1 .left), ← c .before .radicand .ensures .is) (c .is-near .ensures .1),
     )
 
 pub sure-spec : {M : Type 1} → statement M
-sure-spec = tie.close (tie.spec add-v returns radicand-requires add-is-near is-near-requires returns-2)
+sure-spec = tie.close (tie.spec (λ c. search needs) returns (λ c κs. search needs) (λ c. search needs) (λ c κs. search needs) returns-2)

@@ -10,11 +10,15 @@ returns c = simp (← c .before .abs .ensures, c .if1 .taken)
 
 returns-2 : tie.Need-returns-2
 unfolding narrowed ofBits round
-returns-2 c = simp (← c .before .before .before .before .abs .ensures, ← c .before .before .replace-end .ensures, ← c .go-on .ensures, c .before .if2 .taken, c .before .before .before .if1 .left)
+returns-2 c =
+    let r = c .before .before in
+    simp (← r .before .before .abs .ensures, ← r .replace-end .ensures, ← c .go-on .ensures, c .before .if2 .taken, r .before .if1 .left)
 
 returns-3 : tie.Need-returns-3
 unfolding narrowed ofBits round
-returns-3 c = simp (← c .before .before .before .before .abs .ensures, ← c .before .before .replace-end .ensures, ← c .go-on2 .ensures, c .before .if2 .left, c .before .before .before .if1 .left)
+returns-3 c =
+    let r = c .before .before in
+    simp (← r .before .before .abs .ensures, ← r .replace-end .ensures, ← c .go-on2 .ensures, c .before .if2 .left, r .before .if1 .left)
 
 pub narrow-spec : {M : Type 1} → statement M
 narrow-spec = tie.close (tie.spec (λ c κs. tt) returns (λ c κs. tt) (λ c κs. tt) returns-2 (λ c κs. tt) returns-3)

@@ -23,7 +23,7 @@ loop-holds : tie.Need-loop-holds Inv-loop μ-loop
 loop-holds c = (refl, (omega arith, rw add-sub-cancel-left))
 
 returns : tie.Need-returns Inv-loop μ-loop
-returns c = all-stop (patchOk (c .before .before .before .before .before .args .sheet .now)) (c .before .before .before .loop .i) (c .before .before .before .before .before .args .count + c .before .before .before .before .before .args .n) (omega arith) (sym (c .before .patch-ok .ensures) ∙ not-true _ (c .if1 .taken)) ∙ c .before .before .before .loop .inv .1 .1
+returns c = all-stop _ _ _ (omega arith) (sym (c .before .patch-ok .ensures) ∙ not-true _ (c .if1 .taken)) ∙ c .before .before .before .loop .inv .1 .1
 
 add-i : tie.Need-add-i Inv-loop μ-loop
 add-i c = omega arith
@@ -32,10 +32,18 @@ loop-less : tie.Need-loop-less Inv-loop μ-loop
 loop-less c = omega arith
 
 loop-again : tie.Need-loop-again Inv-loop μ-loop
-loop-again c = (c .before .before .before .loop .inv .0, (omega arith, all-next (patchOk (c .before .before .before .before .before .args .sheet .now)) (c .before .before .before .loop .i) (c .before .before .before .before .before .args .count + c .before .before .before .before .before .args .n) (omega arith) (sym (c .before .patch-ok .ensures) ∙ not-false _ (c .if1 .left)) ∙ c .before .before .before .loop .inv .1 .1))
+loop-again c =
+    let at-loop : tie.At-loop Inv-loop μ-loop = search in (
+      at-loop .loop .inv .0,
+      (
+        omega arith,
+        all-next _ _ _ (omega arith) (sym (c .before .patch-ok .ensures) ∙ not-false _ (c .if1 .left))
+            ∙ at-loop .loop .inv .1 .1,
+      ),
+    )
 
 returns-2 : tie.Need-returns-2 Inv-loop μ-loop
-returns-2 c = all-end (patchOk (c .before .before .before .args .sheet .now)) (c .before .loop .i) (c .before .before .before .args .count + c .before .before .before .args .n) (omega arith) ∙ c .before .loop .inv .1 .1
+returns-2 c = all-end _ _ _ (omega arith) ∙ c .before .loop .inv .1 .1
 
 pub patches-ok-spec : {M : Type 1} → statement M
 patches-ok-spec = tie.close (tie.spec Inv-loop μ-loop add-end loop-holds (λ c κs. search needs) returns add-i loop-less loop-again returns-2)

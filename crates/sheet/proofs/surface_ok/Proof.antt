@@ -7,7 +7,36 @@ use Rattle.sheet.proofs.surface_ok.Tie as tie
 
 returns : tie.Need-returns
 unfolding surfaceOk
-returns c = simp (← c0, ← c1, ← c10, ← c .before .before .before .before .before .before .before .before .before .before .before .before .before .whole .ensures, ← c .before .before .before .before .before .before .before .before .before .before .before .before .double .ensures, ← c .before .before .before .before .before .before .before .before .before .before .before .restitution-ok .ensures, ← c .before .before .before .before .before .before .before .before .before .before .double2 .ensures, ← c .before .before .before .before .before .before .before .before .before .within .ensures, ← c .before .before .before .before .before .before .before .before .double3 .ensures, ← c .before .before .before .before .before .before .before .within2 .ensures, ← c .before .before .before .before .before .before .whole2 .ensures, ← c .before .before .before .before .before .double4 .ensures, ← c .before .before .before .before .law-ok .ensures, ← c .before .before .before .double5 .ensures, ← c .before .before .within3 .ensures, ← c .before .double6 .ensures, ← c .within4 .ensures)
+returns c =
+    let at-within3 : tie.After-within3 = search in
+    let at-law-ok : tie.After-law-ok = search in
+    let at-whole2 : tie.After-whole2 = search in
+    let at-double3 : tie.After-double3 = search in
+    let at-double2 : tie.After-double2 = search in
+    let at-double : tie.After-double = search in
+    simp (
+      ← c0,
+      ← c1,
+      ← c10,
+      ← at-double .before .whole .ensures,
+      ← at-double .double .ensures,
+      ← at-double2 .before .restitution-ok .ensures,
+      ← at-double2 .double2 .ensures,
+      ← at-double3 .before .within .ensures,
+      ← at-double3 .double3 .ensures,
+      ← at-whole2 .before .within2 .ensures,
+      ← at-whole2 .whole2 .ensures,
+      ← at-law-ok .before .double4 .ensures,
+      ← at-law-ok .law-ok .ensures,
+      ← at-within3 .before .double5 .ensures,
+      ← at-within3 .within3 .ensures,
+      ← c .before .double6 .ensures,
+      ← c .within4 .ensures,
+    )
 
 pub surface-ok-spec : {M : Type 1} → statement M
-surface-ok-spec = tie.close (tie.spec (λ c κs. search needs) (λ c κs. search needs) (λ c κs. search needs) (λ c κs. search needs) (λ c κs. search needs) (λ c κs. search needs) (λ c κs. search needs) (λ c κs. search needs) (λ c κs. search needs) (λ c κs. search needs) (λ c κs. search needs) (λ c κs. search needs) (λ c κs. search needs) (λ c κs. search needs) returns)
+surface-ok-spec =
+    tie.close
+    (tie.spec (λ c κs. search needs) (λ c κs. search needs) (λ c κs. search needs) (λ c κs. search needs) (λ c κs. search needs)
+    (λ c κs. search needs) (λ c κs. search needs) (λ c κs. search needs) (λ c κs. search needs) (λ c κs. search needs) (λ c κs. search needs)
+    (λ c κs. search needs) (λ c κs. search needs) (λ c κs. search needs) returns)

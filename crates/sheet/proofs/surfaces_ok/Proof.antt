@@ -20,7 +20,7 @@ loop-holds : tie.Need-loop-holds Inv-loop μ-loop
 loop-holds c = (omega arith, rw sub-zero)
 
 returns : tie.Need-returns Inv-loop μ-loop
-returns c = all-stop (surfaceOk (c .before .before .before .before .before .args .sheet .now)) (c .before .before .before .loop .i) (c .before .before .before .before .before .args .end) (omega arith) (sym (c .before .surface-ok .ensures) ∙ not-true _ (c .if1 .taken)) ∙ c .before .before .before .loop .inv .1
+returns c = all-stop _ _ _ (omega arith) (sym (c .before .surface-ok .ensures) ∙ not-true _ (c .if1 .taken)) ∙ c .before .before .before .loop .inv .1
 
 add-i : tie.Need-add-i Inv-loop μ-loop
 add-i c = omega arith
@@ -29,10 +29,14 @@ loop-less : tie.Need-loop-less Inv-loop μ-loop
 loop-less c = omega arith
 
 loop-again : tie.Need-loop-again Inv-loop μ-loop
-loop-again c = (omega arith, all-next (surfaceOk (c .before .before .before .before .before .args .sheet .now)) (c .before .before .before .loop .i) (c .before .before .before .before .before .args .end) (omega arith) (sym (c .before .surface-ok .ensures) ∙ not-false _ (c .if1 .left)) ∙ c .before .before .before .loop .inv .1)
+loop-again c = (
+  omega arith,
+  all-next _ _ _ (omega arith) (sym (c .before .surface-ok .ensures) ∙ not-false _ (c .if1 .left))
+      ∙ c .before .before .before .loop .inv .1,
+)
 
 returns-2 : tie.Need-returns-2 Inv-loop μ-loop
-returns-2 c = all-end (surfaceOk (c .before .before .before .args .sheet .now)) (c .before .loop .i) (c .before .before .before .args .end) (omega arith) ∙ c .before .loop .inv .1
+returns-2 c = all-end _ _ _ (omega arith) ∙ c .before .loop .inv .1
 
 pub surfaces-ok-spec : {M : Type 1} → statement M
 surfaces-ok-spec = tie.close (tie.spec Inv-loop μ-loop loop-holds (λ c κs. search needs) returns add-i loop-less loop-again returns-2)

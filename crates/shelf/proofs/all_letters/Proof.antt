@@ -27,7 +27,7 @@ is-letter-requires c κs = search needs
 
 returns : tie.Need-returns Inv-loop μ-loop
 returns c =
-    let at-loop-test = c .before .before .before in
+    let at-loop-test : tie.In-loop Inv-loop μ-loop = search in
     no-letter _ _ (at-loop-test .before .loop .inv .1) (at-loop-test .loop-test .taken)
     (sym (c .before .is-letter .ensures) ∙ not-true _ (c .if1 .taken))
 
@@ -39,7 +39,7 @@ loop-less c = omega arith
 
 loop-again : tie.Need-loop-again Inv-loop μ-loop
 loop-again c =
-    let at-loop-test = c .before .before .before in (
+    let at-loop-test : tie.In-loop Inv-loop μ-loop = search in (
       omega arith,
       letter _ _ (at-loop-test .before .loop .inv .1) (at-loop-test .loop-test .taken)
           (sym (c .before .is-letter .ensures) ∙ not-false _ (c .if1 .left)),

@@ -33,8 +33,7 @@ place-sound-requires c κs = search needs
 
 returns : tie.Need-returns Inv-loop μ-loop
 returns c =
-    let at-loop = c .before .before .before .before in
-    not-sound _ _ _ (at-loop .loop .inv .1) (omega arith) (sym (c .before .place-sound .ensures) ∙ not-true _ (c .if1 .taken))
+    not-sound _ _ _ (c .before .before .before .before .loop .inv .1) (omega arith) (sym (c .before .place-sound .ensures) ∙ not-true _ (c .if1 .taken))
 
 add-i : tie.Need-add-i Inv-loop μ-loop
 add-i c = omega arith
@@ -43,9 +42,11 @@ loop-less : tie.Need-loop-less Inv-loop μ-loop
 loop-less c = omega arith
 
 loop-again : tie.Need-loop-again Inv-loop μ-loop
-loop-again c =
-    let at-loop = c .before .before .before .before in
-    (omega arith, sound-on _ _ _ (at-loop .loop .inv .1) (omega arith) (sym (c .before .place-sound .ensures) ∙ not-false _ (c .if1 .left)))
+loop-again c = (
+  omega arith,
+  sound-on _ _ _ (c .before .before .before .before .loop .inv .1) (omega arith)
+      (sym (c .before .place-sound .ensures) ∙ not-false _ (c .if1 .left)),
+)
 
 returns-2 : tie.Need-returns-2 Inv-loop μ-loop
 returns-2 c = sound-end _ (c .before .loop .i) emptyPlace (c .before .loop .inv .1) (omega arith)

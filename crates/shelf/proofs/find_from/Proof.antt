@@ -29,8 +29,11 @@ is-same-requires c κs = search needs
 
 returns : tie.Need-returns Inv-loop μ-loop
 returns c =
-    let at-loop = c .before .before .before .before .before in
-    record { same = here _ _ _ _ _ (at-loop .loop .inv .1) (omega arith) (sym (c .before .is-same .ensures) ∙ c .if1 .taken); size = omega arith }
+    record {
+      same = here _ _ _ _ _ (c .before .before .before .before .before .loop .inv .1) (omega arith)
+          (sym (c .before .is-same .ensures) ∙ c .if1 .taken);
+      size = omega arith;
+    }
 
 add-i : tie.Need-add-i Inv-loop μ-loop
 add-i c = omega arith
@@ -40,8 +43,7 @@ loop-less c = omega arith
 
 loop-again : tie.Need-loop-again Inv-loop μ-loop
 loop-again c =
-    let at-loop = c .before .before .before .before .before in
-    (omega arith, further _ _ _ _ _ (at-loop .loop .inv .1) (omega arith) (sym (c .before .is-same .ensures) ∙ c .if1 .left))
+    (omega arith, further _ _ _ _ _ (c .before .before .before .before .before .loop .inv .1) (omega arith) (sym (c .before .is-same .ensures) ∙ c .if1 .left))
 
 returns-2 : tie.Need-returns-2 Inv-loop μ-loop
 returns-2 c = record { same = nowhere _ _ _ _ emptyPlace (c .before .loop .inv .1) (omega arith); size = omega arith }

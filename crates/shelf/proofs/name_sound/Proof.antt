@@ -47,7 +47,7 @@ byte-fits-requires c κs = search needs
 
 returns-2 : tie.Need-returns-2 Inv-loop μ-loop
 returns-2 c =
-    let at-loop = c .before .before .before in
+    let at-loop : tie.At-loop Inv-loop μ-loop = search in
     let a = at-loop .before in
     unfit (a .before .args .t1) _ _ _ (at-loop .loop .inv .1) (omega arith)
     (sym (c .before .byte-fits .ensures) ∙ not-true _ (c .if2 .taken)) ∙ within (a .before .args .t1) (omega arith) (a .if1 .left)
@@ -60,17 +60,17 @@ loop-less c = omega arith
 
 loop-again : tie.Need-loop-again Inv-loop μ-loop
 loop-again c =
-    let at-loop = c .before .before .before in
-    let a = at-loop .before in (
+    let at-loop : tie.At-loop Inv-loop μ-loop = search in (
       omega arith,
-      fit (a .before .args .t1) _ _ _ (at-loop .loop .inv .1) (omega arith) true (sym (c .before .byte-fits .ensures) ∙ not-false _ (c .if2 .left)),
+      fit (at-loop .before .before .args .t1) _ _ _ (at-loop .loop .inv .1) (omega arith) true
+          (sym (c .before .byte-fits .ensures) ∙ not-false _ (c .if2 .left)),
     )
 
 returns-3 : tie.Need-returns-3 Inv-loop μ-loop
 returns-3 c =
-    let at-start = c .before .before .before in
-    let l = at-start .args .t1 in
-    padded-end l (1 + c .before .loop .i) _ _ (c .before .loop .inv .1) (omega arith) ∙ within l (omega arith) (c .before .before .if1 .left)
+    let at-loop = c .before in
+    let l = at-loop .before .before .args .t1 in
+    padded-end l (1 + at-loop .loop .i) _ _ (at-loop .loop .inv .1) (omega arith) ∙ within l (omega arith) (at-loop .before .if1 .left)
 
 pub name-sound-spec : {M : Type 1} → statement M
 name-sound-spec =

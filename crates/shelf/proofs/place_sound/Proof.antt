@@ -21,8 +21,8 @@ is-same-requires c κs = search needs
 returns-2 : tie.Need-returns-2
 unfolding soundPlace
 returns-2 c =
-    let at-name-sound = c .before .before .before in
-    rw (sym (at-name-sound .name-sound .ensures) ∙ not-false _ (c .before .before .if1 .left), sym (c .before .is-same .ensures) ∙ c .if2 .taken)
+    let at-if1 : tie.Else1 = search in
+    rw (sym (at-if1 .before .name-sound .ensures) ∙ not-false _ (at-if1 .if1 .left), sym (c .before .is-same .ensures) ∙ c .if2 .taken)
 
 state-ok-requires : tie.Need-state-ok-requires
 state-ok-requires c κs = search needs
@@ -30,11 +30,12 @@ state-ok-requires c κs = search needs
 returns-3 : tie.Need-returns-3
 unfolding soundPlace
 returns-3 c =
-    let at-is-same = c .before .before .before in
+    let at-if2 : tie.Else2 = search in
+    let at-if1 : tie.Else1 = search in
     rw (
-      sym (at-is-same .before .before .name-sound .ensures) ∙ not-false _ (at-is-same .before .if1 .left),
+      sym (at-if1 .before .name-sound .ensures) ∙ not-false _ (at-if1 .if1 .left),
       sym
-          (at-is-same .is-same .ensures) ∙ c .before .before .if2 .left,
+          (at-if2 .before .is-same .ensures) ∙ at-if2 .if2 .left,
       sym (c .before .state-ok .ensures) ∙ not-true _ (c .if3 .taken),
     )
 
@@ -44,13 +45,14 @@ find-from-requires c κs = search needs
 returns-4 : tie.Need-returns-4
 unfolding soundPlace
 returns-4 c =
-    let at-if2 = c .before .before .before in
-    let at-name-sound = at-if2 .before .before .before in
+    let at-if3 = c .before in
+    let at-if2 : tie.Else2 = search in
+    let at-if1 : tie.Else1 = search in
     rw (
-      sym (at-name-sound .name-sound .ensures) ∙ not-false _ (at-if2 .before .before .if1 .left),
+      sym (at-if1 .before .name-sound .ensures) ∙ not-false _ (at-if1 .if1 .left),
       sym
           (at-if2 .before .is-same .ensures) ∙ at-if2 .if2 .left,
-      sym (c .before .before .state-ok .ensures) ∙ not-false _ (c .before .if3 .left),
+      sym (at-if3 .before .state-ok .ensures) ∙ not-false _ (at-if3 .if3 .left),
     )
     (later (omega arith) (c .find-from .ensures))
 

@@ -30,9 +30,6 @@ mul-byte-of c = omega arith
 shared-slice-read-byte-of : tie.Need-shared-slice-read-byte-of Inv-loop μ-loop
 shared-slice-read-byte-of c = omega arith
 
-byte-of-requires : tie.Need-byte-of-requires Inv-loop μ-loop
-byte-of-requires c κs = search needs
-
 array-write-out : tie.Need-array-write-out Inv-loop μ-loop
 array-write-out c = omega arith
 
@@ -44,7 +41,7 @@ loop-less c = omega arith
 
 loop-again : tie.Need-loop-again Inv-loop μ-loop
 loop-again c =
-    let at-loop = c .before .before .before in (
+    let at-loop : tie.At-loop Inv-loop μ-loop = search in (
       omega arith,
       simp length-set (at-loop .loop .inv .1),
       read-on _ _ _ _ (c .before .before .loop-test .taken) (omega arith) _ _ _
@@ -64,7 +61,7 @@ name-at-spec =
     add-byte-of
     mul-byte-of
     shared-slice-read-byte-of
-    byte-of-requires
+    (λ c κs. search needs)
     array-write-out
     add-i
     loop-less

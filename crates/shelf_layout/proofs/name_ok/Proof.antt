@@ -30,12 +30,9 @@ mul-is-whole c = omega arith
 shared-slice-read-is-whole : tie.Need-shared-slice-read-is-whole Inv-loop μ-loop
 shared-slice-read-is-whole c = omega arith
 
-is-whole-requires : tie.Need-is-whole-requires Inv-loop μ-loop
-is-whole-requires c κs = search needs
-
 returns : tie.Need-returns Inv-loop μ-loop
 returns c =
-    let at-loop-test = c .before .before .before in
+    let at-loop-test : tie.In-loop Inv-loop μ-loop = search in
     test-on _ _ _ _ (at-loop-test .loop-test .taken) (omega arith) _ false (sym (not-true _ (c .if1 .taken)) ∙ c .before .is-whole .ensures)
     (at-loop-test .before .loop .inv .1)
 
@@ -47,7 +44,7 @@ loop-less c = omega arith
 
 loop-again : tie.Need-loop-again Inv-loop μ-loop
 loop-again c =
-    let at-loop-test = c .before .before .before in (
+    let at-loop-test : tie.In-loop Inv-loop μ-loop = search in (
       omega arith,
       test-on _ _ _ _ (at-loop-test .loop-test .taken) (omega arith) _ true
           (sym (not-false _ (c .if1 .left)) ∙ c .before .is-whole .ensures) (at-loop-test .before .loop .inv .1),
@@ -66,7 +63,7 @@ name-ok-spec =
     add-is-whole
     mul-is-whole
     shared-slice-read-is-whole
-    is-whole-requires
+    (λ c κs. search needs)
     returns
     add-i
     loop-less

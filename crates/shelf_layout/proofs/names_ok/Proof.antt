@@ -24,14 +24,12 @@ mul-name-ok c = omega arith
 
 name-ok-requires : tie.Need-name-ok-requires Inv-loop μ-loop
 name-ok-requires c κs =
-    let at-start = c .before .before .before in
-    let h = at-start .pre in omega arith
+    let h = c .before .before .before .pre in omega arith
 
 returns : tie.Need-returns Inv-loop μ-loop
 returns c =
-    let at-loop = c .before .before .before in
-    names-on _ _ (c .before .before .loop-test .taken) _ false (sym (not-true _ (c .if1 .taken)) ∙ c .before .name-ok .ensures)
-    (at-loop .loop .inv .1)
+    names-on _ _ (omega arith) _ false (sym (not-true _ (c .if1 .taken)) ∙ c .before .name-ok .ensures)
+    (c .before .before .before .loop .inv .1)
 
 add-i : tie.Need-add-i Inv-loop μ-loop
 add-i c = omega arith
@@ -40,12 +38,11 @@ loop-less : tie.Need-loop-less Inv-loop μ-loop
 loop-less c = omega arith
 
 loop-again : tie.Need-loop-again Inv-loop μ-loop
-loop-again c =
-    let at-loop = c .before .before .before in (
-      omega arith,
-      names-on _ _ (c .before .before .loop-test .taken) _ true (sym (not-false _ (c .if1 .left)) ∙ c .before .name-ok .ensures)
-          (at-loop .loop .inv .1),
-    )
+loop-again c = (
+  omega arith,
+  names-on _ _ (omega arith) _ true (sym (not-false _ (c .if1 .left)) ∙ c .before .name-ok .ensures)
+      (c .before .before .before .loop .inv .1),
+)
 
 returns-2 : tie.Need-returns-2 Inv-loop μ-loop
 returns-2 c = names-end _ _ (c .loop-test .left) _ (c .before .loop .inv .1)

@@ -9,20 +9,11 @@ returns : tie.Need-returns
 unfolding shelfNewDoorOf
 returns c = rw (ne-eqb _ _ (c .if1 .taken))
 
-new-requires : tie.Need-new-requires
-new-requires c κs = search needs
-
-write-shelf-requires : tie.Need-write-shelf-requires
-write-shelf-requires c κs = search needs
-
-same-length : tie.Need-same-length
-same-length c = search needs
-
 returns-2 : tie.Need-returns-2
 unfolding shelfNewDoorOf
 returns-2 c =
-    let at-new = c .before .before .before in
+    let at-new : tie.After-new = search in
     rw (eq-eqb _ _ (at-new .before .before .if1 .left), c .before .before .write-shelf .ensures, at-new .new .ensures)
 
 pub new-in-spec : {M : Type 1} → statement M
-new-in-spec = tie.close (tie.spec returns new-requires write-shelf-requires same-length returns-2)
+new-in-spec = tie.close (tie.spec returns (λ c κs. search needs) (λ c κs. search needs) (λ c. search needs) returns-2)

@@ -5,18 +5,9 @@ use borrow.Author.Needs.{needs}
 use Rattle.shelf_layout.proofs.place_at.Statement.{statement}
 use Rattle.shelf_layout.proofs.place_at.Tie as tie
 
-name-at-requires : tie.Need-name-at-requires
-name-at-requires c κs = search needs
-
-add-state-at : tie.Need-add-state-at
-add-state-at c = search needs
-
-state-at-requires : tie.Need-state-at-requires
-state-at-requires c κs = search needs
-
 returns : tie.Need-returns
 unfolding placeAt
 returns c = rw (c .before .name-at .ensures, c .state-at .ensures, state-on _ _)
 
 pub place-at-spec : {M : Type 1} → statement M
-place-at-spec = tie.close (tie.spec name-at-requires add-state-at state-at-requires returns)
+place-at-spec = tie.close (tie.spec (λ c κs. search needs) (λ c. search needs) (λ c κs. search needs) returns)

@@ -26,8 +26,7 @@ mul-place-at c = omega arith
 
 place-at-requires-2 : tie.Need-place-at-requires-2 Inv-loop μ-loop
 place-at-requires-2 c κs =
-    let at-start = c .before .before .before .before in
-    let h = at-start .pre in omega arith
+    let h = c .before .before .before .before .pre in omega arith
 
 mul-out : tie.Need-mul-out Inv-loop μ-loop
 mul-out c = omega arith
@@ -44,7 +43,7 @@ loop-less c = omega arith
 loop-again : tie.Need-loop-again Inv-loop μ-loop
 loop-again c = (
   omega arith,
-  simp length-set (c .before .before .loop .inv .1),
+  simp length-set (omega arith),
   place-on _ _ (c .before .loop-test .taken) _ _ _
       (c .place-at2 .ensures) (omega arith) (c .before .before .loop .inv .2),
 )

@@ -14,28 +14,19 @@ returns-2 : tie.Need-returns-2
 unfolding shelfReturnDoorOf
 returns-2 c = rw (eq-eqb _ _ (c .before .if1 .left), ne-eqb _ _ (c .if2 .taken))
 
-shelf-ok-requires : tie.Need-shelf-ok-requires
-shelf-ok-requires c κs = search needs
-
-return-held-requires : tie.Need-return-held-requires
-return-held-requires c κs = search needs
-
-same-length : tie.Need-same-length
-same-length c = search needs
-
 returns-3 : tie.Need-returns-3
 unfolding shelfReturnDoorOf
 returns-3 c =
-    let at-if3 = c .before .before .before .before in
-    let at-if1 = at-if3 .before .before .before in
-    rw (eq-eqb _ _ (at-if1 .if1 .left), eq-eqb _ _ (at-if3 .before .before .if2 .left), sym (at-if3 .before .shelf-ok .ensures) ∙ at-if3 .if3 .taken)
+    let at-if3 : tie.Then3 = search in
+    let at-if2 : tie.Else2 = search in
+    rw (eq-eqb _ _ (at-if2 .before .if1 .left), eq-eqb _ _ (at-if2 .if2 .left), sym (at-if3 .before .shelf-ok .ensures) ∙ at-if3 .if3 .taken)
     (c .before .before .return-held .ensures)
 
 returns-4 : tie.Need-returns-4
 unfolding shelfReturnDoorOf
 returns-4 c =
-    let at-if1 = c .before .before .before in
-    rw (eq-eqb _ _ (at-if1 .if1 .left), eq-eqb _ _ (c .before .before .if2 .left), sym (c .before .shelf-ok .ensures) ∙ c .if3 .left)
+    let at-if2 : tie.Else2 = search in
+    rw (eq-eqb _ _ (at-if2 .before .if1 .left), eq-eqb _ _ (at-if2 .if2 .left), sym (c .before .shelf-ok .ensures) ∙ c .if3 .left)
 
 pub return-in-spec : {M : Type 1} → statement M
 return-in-spec =
@@ -43,8 +34,8 @@ return-in-spec =
     (tie.spec
     returns
     returns-2
-    shelf-ok-requires
-    return-held-requires
-    same-length
+    (λ c κs. search needs)
+    (λ c κs. search needs)
+    (λ c. search needs)
     returns-3
     returns-4)

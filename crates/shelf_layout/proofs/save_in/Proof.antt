@@ -14,30 +14,18 @@ returns-2 : tie.Need-returns-2
 unfolding shelfSaveDoorOf
 returns-2 c = rw (eq-eqb _ _ (c .before .if1 .left), ne-eqb _ _ (c .if2 .taken))
 
-shelf-ok-requires : tie.Need-shelf-ok-requires
-shelf-ok-requires c κs = search needs
-
-save-held-requires : tie.Need-save-held-requires
-save-held-requires c κs = search needs
-
-same-length : tie.Need-same-length
-same-length c = search needs
-
 returns-3 : tie.Need-returns-3
 unfolding shelfSaveDoorOf
 returns-3 c =
-    let at-if3 = c .before .before .before .before in
-    let at-if2 = at-if3 .before .before .before in
+    let at-if3 : tie.Then3 = search in
+    let at-if2 : tie.Else2 = search in
     rw (eq-eqb _ _ (at-if2 .before .if1 .left), eq-eqb _ _ (at-if2 .if2 .left), sym (at-if3 .before .shelf-ok .ensures) ∙ at-if3 .if3 .taken)
     (c .before .before .save-held .ensures)
-
-same-length-2 : tie.Need-same-length-2
-same-length-2 c = search needs
 
 returns-4 : tie.Need-returns-4
 unfolding shelfSaveDoorOf
 returns-4 c =
-    let at-if2 = c .before .before .before in
+    let at-if2 : tie.Else2 = search in
     rw (eq-eqb _ _ (at-if2 .before .if1 .left), eq-eqb _ _ (at-if2 .if2 .left), sym (c .before .shelf-ok .ensures) ∙ c .if3 .left)
 
 pub save-in-spec : {M : Type 1} → statement M
@@ -46,9 +34,9 @@ save-in-spec =
     (tie.spec
     returns
     returns-2
-    shelf-ok-requires
-    save-held-requires
-    same-length
+    (λ c κs. search needs)
+    (λ c κs. search needs)
+    (λ c. search needs)
     returns-3
-    same-length-2
+    (λ c. search needs)
     returns-4)

@@ -9,15 +9,9 @@ returns : tie.Need-returns
 unfolding changed
 returns c = rw (ne-eqb _ _ (c .if1 .taken))
 
-write-shelf-requires : tie.Need-write-shelf-requires
-write-shelf-requires c κs = search needs
-
-same-length : tie.Need-same-length
-same-length c = search needs
-
 returns-2 : tie.Need-returns-2
 unfolding changed
 returns-2 c = rw (eq-eqb _ _ (c .before .before .before .before .before .if1 .left), c .before .before .write-shelf .ensures)
 
 pub write-changed-spec : {M : Type 1} → statement M
-write-changed-spec = tie.close (tie.spec returns write-shelf-requires same-length returns-2)
+write-changed-spec = tie.close (tie.spec returns (λ c κs. search needs) (λ c. search needs) returns-2)

@@ -24,12 +24,6 @@ loop-holds c = let a = c .before .args in (paste-zero (a .out .now) (a .at) (map
 array-read-wide : tie.Need-array-read-wide Inv-loop μ-loop
 array-read-wide c = omega arith
 
-wide-requires : tie.Need-wide-requires Inv-loop μ-loop
-wide-requires c κs = search needs
-
-whole-requires : tie.Need-whole-requires Inv-loop μ-loop
-whole-requires c κs = search needs
-
 add-out : tie.Need-add-out Inv-loop μ-loop
 add-out c = omega arith
 
@@ -47,7 +41,7 @@ loop-less c = omega arith
 
 loop-again : tie.Need-loop-again Inv-loop μ-loop
 loop-again c =
-    let at-loop = c .before .before .before in
+    let at-loop : tie.At-loop Inv-loop μ-loop = search in
     let a = at-loop .before .before .args in
     let l = at-loop .loop in
     let r = map wholeOf (a .t3) in
@@ -64,8 +58,7 @@ same-length c = c .before .loop .inv .2
 
 returns : tie.Need-returns Inv-loop μ-loop
 returns c =
-    let at-start = c .before .before .before in
-    let a = at-start .args in
+    let a = c .before .before .before .args in
     let r = map wholeOf (a .t3) in
     let n : length r ≡ 13 = omega (arith, length-map (a .t3) wholeOf) in
     let e : c .before .loop .i ≡ length r = omega arith in
@@ -79,8 +72,8 @@ write-name-spec =
     μ-loop
     loop-holds
     array-read-wide
-    wide-requires
-    whole-requires
+    (λ c κs. search needs)
+    (λ c κs. search needs)
     add-out
     mul-out
     slice-write-out

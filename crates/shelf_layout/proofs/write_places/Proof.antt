@@ -28,9 +28,6 @@ mul-write-place-2 c = omega arith
 array-copy-out-write-place : tie.Need-array-copy-out-write-place Inv-loop μ-loop
 array-copy-out-write-place c = omega arith
 
-write-place-requires : tie.Need-write-place-requires Inv-loop μ-loop
-write-place-requires c κs = search needs
-
 add-i : tie.Need-add-i Inv-loop μ-loop
 add-i c = omega arith
 
@@ -39,9 +36,10 @@ loop-less c = omega arith
 
 loop-again : tie.Need-loop-again Inv-loop μ-loop
 loop-again c =
-    let at-loop-test = c .before .before .before .before .before in
-    let w = write-on _ _ _ _ _ _ (at-loop-test .loop-test .taken) (omega arith) (at-loop-test .before .loop .inv .1)
-    (c .before .before .write-place .ensures) (at-loop-test .before .loop .inv .2) in
+    let at-loop-test : tie.In-loop Inv-loop μ-loop = search in
+    let at-loop = at-loop-test .before in
+    let w = write-on _ _ _ _ _ _ (at-loop-test .loop-test .taken) (omega arith) (at-loop .loop .inv .1)
+    (c .before .before .write-place .ensures) (at-loop .loop .inv .2) in
     (omega arith, w .0, w .1)
 
 same-length : tie.Need-same-length Inv-loop μ-loop
@@ -60,7 +58,7 @@ write-places-spec =
     mul-write-place
     mul-write-place-2
     array-copy-out-write-place
-    write-place-requires
+    (λ c κs. search needs)
     add-i
     loop-less
     loop-again

@@ -6,7 +6,9 @@ use Rattle.shot.proofs.landing_ok.Tie as tie
 
 returns : tie.Need-returns
 unfolding landingOk ofBits round
-returns c = simp (← c .before .before .before .within .ensures, ← c .before .before .vec-about .ensures, ← c .before .vec-about2 .ensures, ← c .vec-about3 .ensures)
+returns c =
+    let v = c .before .before in
+    simp (← v .before .within .ensures, ← v .vec-about .ensures, ← c .before .vec-about2 .ensures, ← c .vec-about3 .ensures)
 
 pub landing-ok-spec : {M : Type 1} → statement M
 landing-ok-spec =

@@ -6,7 +6,7 @@ use Rattle.shot.proofs.physics_ok.Tie as tie
 
 returns : tie.Need-returns
 unfolding physicsOk ofBits round
-returns c = simp (← c .before .before .before .step-physics-ok .ensures, ← c .before .before .within .ensures, ← c .before .within2 .ensures)
+returns c = let w = c .before .before in simp (← w .before .step-physics-ok .ensures, ← w .within .ensures, ← c .before .within2 .ensures)
 
 pub physics-ok-spec : {M : Type 1} → statement M
 physics-ok-spec =

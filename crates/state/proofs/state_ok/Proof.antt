@@ -5,15 +5,23 @@ use Rattle.state.proofs.state_ok.Tie as tie
 
 returns : tie.Need-returns
 unfolding stateOk
-returns c = rw (← c .before .before .before .before .before .before .coord-ok .ensures, c .before .before .before .before .before .if1 .taken, ← c .before .before .before .before .vec-ok .ensures, c .before .before .before .if2 .taken, ← c .before .before .vec-ok2 .ensures, c .before .if3 .taken) (c .vec-ok3 .ensures)
+returns c =
+    let v = c .before in
+    let p = v .before .before in
+    let t = p .before .before in
+    rw (← t .before .coord-ok .ensures, t .if1 .taken, ← p .before .vec-ok .ensures, p .if2 .taken, ← v .before .vec-ok2 .ensures, v .if3 .taken)
+    (c .vec-ok3 .ensures)
 
 returns-2 : tie.Need-returns-2
 unfolding stateOk
-returns-2 c = rw (← c .before .before .before .before .before .coord-ok .ensures, c .before .before .before .before .if1 .taken, ← c .before .before .before .vec-ok .ensures, c .before .before .if2 .taken, ← c .before .vec-ok2 .ensures, c .if3 .left)
+returns-2 c =
+    let p = c .before .before in
+    let t = p .before .before in
+    rw (← t .before .coord-ok .ensures, t .if1 .taken, ← p .before .vec-ok .ensures, p .if2 .taken, ← c .before .vec-ok2 .ensures, c .if3 .left)
 
 returns-3 : tie.Need-returns-3
 unfolding stateOk
-returns-3 c = rw (← c .before .before .before .coord-ok .ensures, c .before .before .if1 .taken, ← c .before .vec-ok .ensures, c .if2 .left)
+returns-3 c = let t = c .before .before in rw (← t .before .coord-ok .ensures, t .if1 .taken, ← c .before .vec-ok .ensures, c .if2 .left)
 
 returns-4 : tie.Need-returns-4
 unfolding stateOk

@@ -5,11 +5,14 @@ use Rattle.state.proofs.vec_ok.Tie as tie
 
 returns : tie.Need-returns
 unfolding vecOk
-returns c = rw (← c .before .before .before .before .coord-ok .ensures, c .before .before .before .if1 .taken, ← c .before .before .coord-ok2 .ensures, c .before .if2 .taken) (c .coord-ok3 .ensures)
+returns c =
+    let y = c .before in
+    let x = y .before .before in
+    rw (← x .before .coord-ok .ensures, x .if1 .taken, ← y .before .coord-ok2 .ensures, y .if2 .taken) (c .coord-ok3 .ensures)
 
 returns-2 : tie.Need-returns-2
 unfolding vecOk
-returns-2 c = rw (← c .before .before .before .coord-ok .ensures, c .before .before .if1 .taken, ← c .before .coord-ok2 .ensures, c .if2 .left)
+returns-2 c = let x = c .before .before in rw (← x .before .coord-ok .ensures, x .if1 .taken, ← c .before .coord-ok2 .ensures, c .if2 .left)
 
 returns-3 : tie.Need-returns-3
 unfolding vecOk

@@ -3,7 +3,7 @@ use Prim.Native.Nat.{_-_, _*_, _≤_}
 use native.Mathlib.Nat.{le-refl}
 use native.Mathlib.Omega.{arith}
 use borrow.Author.Needs.{needs}
-use mathlib.Core.Path.{refl, _∙_}
+use mathlib.Core.Path.{refl}
 use mathlib.Core.List.{List, []}
 use lib.Ieee.{Float}
 use lib.ListN.{length}
@@ -15,7 +15,6 @@ use Rattle.tally.specs.declared.Conditions.{Conditions}
 use Rattle.tally.specs.declared.Tally.{Tally}
 use Rattle.tally.proofs.Loop.{still-bounded}
 use Rattle.tally.proofs.Reached.{begun, ended, on, came, if-taken, point-pushed, point-stopped, point-fits, truncated}
-use Rattle.hop.specs.declared.Way.{Way}
 use Rattle.hop.proofs.Ways.{flew, hop-ended, hop-due}
 use Rattle.strike.specs.Strike.{flyBy, fly}
 use Rattle.strike.specs.declared.Struck.{Struck}
@@ -40,6 +39,9 @@ pushed c = c .before .before .before .before
 
 abbrev hop : tie.After-flight3 → tie.After-hop
 hop c = c .before .before .before .before
+
+abbrev flown : tie.After-way → tie.After-flight3
+flown c = c .before .before .before
 
 abbrev kept-way : tie.After-truncate → tie.After-way
 kept-way c = c .before .before .before .before .before
@@ -77,12 +79,12 @@ mark-fits c =
     let f = point-fits (courseOf (start (push q) .args .sheet .now)) _ _ (push q .push-point .ensures) (q .pushed2 .given .1) in
     omega (arith, f .0, f .1, c .hop .kept .1 .1 .0, push q .push-point .kept .1 .1 .0)
 
-came-discard : (c : tie.After-truncate) → let f = kept-way c .before .before .before in
+came-discard : (c : tie.After-truncate) → let f = flown (kept-way c) in
     Came (push (pushed (hop f))) (λ e state hit t. toGround e state hit (t .points)) (f .flight3 .given .0 .1 .0) (hop-points (hop f))
 came-discard c lc =
     let w = kept-way c in
-    hop-discarded _ _ _ _ _ (came-way (w .before .before .before) lc) (w .way .given .1) (c .before .before .before .dies-out .ensures)
-    (c .before .before .if2 .left)
+    let e : tie.Else2 = search in
+    hop-discarded _ _ _ _ _ (came-way (flown w) lc) (w .way .given .1) (e .before .dies-out .ensures) (e .if2 .left)
 
 -- ---- the answers
 
@@ -91,90 +93,49 @@ unfolding flyBy
 returns c lc = on (ended (if-taken _ _ _ begun refl (c .if1 .taken)))
 
 push-point-requires : tie.Need-push-point-requires
-push-point-requires c κs = c .before .before .before .before .before .before .pre .0
-
-enum-known-pushed : tie.Need-enum-known-pushed
-enum-known-pushed c = search needs
-
-same-length : tie.Need-same-length
-same-length c = c .before .before .before .before .before .push-point .kept .1 .1 .0
+push-point-requires c κs = let s : tie.Start = search in s .pre .0
 
 returns-2 : tie.Need-returns-2
 returns-2 c lc =
-    let p = c .before .before .before .before .before in
+    let p : tie.After-push-point = search in
     on (ended (point-stopped _ _ _ (came-push p lc) (p .push-point .ensures) (c .before .pushed .given .1)))
-
-enum-known-pushed-2 : tie.Need-enum-known-pushed-2
-enum-known-pushed-2 c = search needs
 
 hop-requires : tie.Need-hop-requires
 hop-requires c κs =
-    let q = c .before .before .before in
+    let q : tie.After-pushed2 = search in
     let p = start (push q) .pre in
     (p .0, still-bounded (came-hop q []) (p .1))
 
-enum-known-flight : tie.Need-enum-known-flight
-enum-known-flight c = search needs
-
-enum-known-flight-2 : tie.Need-enum-known-flight-2
-enum-known-flight-2 c = search needs
-
-enum-known-flight-3 : tie.Need-enum-known-flight-3
-enum-known-flight-3 c = search needs
-
-enum-told : tie.Need-enum-told
-enum-told c = search needs
-
-enum-known-way : tie.Need-enum-known-way
-enum-known-way c = search needs
-
 truncate-requires : tie.Need-truncate-requires
-truncate-requires c κs = mark-fits (hop (c .before .before .before .before .before .before .before))
-
-same-length-2 : tie.Need-same-length-2
-same-length-2 c =
-    let h = c .before .before .before .before .before in
-    h .hop .kept .1 .1 .0 ∙ push (pushed h) .push-point .kept .1 .1 .0
+truncate-requires c κs =
+    let h : tie.After-hop = search in
+    mark-fits h
 
 returns-3 : tie.Need-returns-3
 returns-3 c lc =
-    let h = c .before .before .before .before .before in
+    let h : tie.After-hop = search in
     on (ended (hop-ended _ _ _ (came-hop (pushed h) lc) (h .before .flight-of .ensures) (h .hop .ensures) (c .before .flight .given .1)))
-
-same-length-3 : tie.Need-same-length-3
-same-length-3 c =
-    let h = c .before .before .before .before .before in
-    h .hop .kept .1 .1 .0 ∙ push (pushed h) .push-point .kept .1 .1 .0
 
 returns-4 : tie.Need-returns-4
 returns-4 c lc =
-    let h = c .before .before .before .before .before in
+    let h : tie.After-hop = search in
     on (ended (hop-due _ _ _ (came-hop (pushed h) lc) (h .before .flight-of .ensures) (h .hop .ensures) (c .before .flight2 .given .1)))
 
-same-length-4 : tie.Need-same-length-4
-same-length-4 c = came-way (c .before .before .before) [] .points .long
-
 returns-5 : tie.Need-returns-5
-returns-5 c lc = on (ended (way-late _ _ _ _ _ (came-way (c .before .before .before) lc) (c .enum-told .given .1)))
-
-same-length-5 : tie.Need-same-length-5
-same-length-5 c = came-way (c .before .before .before .before .before .before) [] .points .long
+returns-5 c lc =
+    let f : tie.After-flight3 = search in
+    on (ended (way-late _ _ _ _ _ (came-way f lc) (c .enum-told .given .1)))
 
 returns-6 : tie.Need-returns-6
 returns-6 c lc =
-    let w = c .before .before .before in
-    on (ended (hop-kept _ _ _ _ _ (came-way (w .before .before .before) lc) (w .way .given .1) (c .before .dies-out .ensures) (c .if2 .taken)))
-
-same-length-6 : tie.Need-same-length-6
-same-length-6 c =
-    let t = c .before .before in
-    t .truncate .kept .0 ∙ came-discard t [] .points .long
+    let w : tie.After-way = search in
+    on (ended (hop-kept _ _ _ _ _ (came-way (flown w) lc) (w .way .given .1) (c .before .dies-out .ensures) (c .if2 .taken)))
 
 returns-7 : tie.Need-returns-7
 returns-7 c lc =
     let t = c .before .before in
     let r = came-discard t lc in
-    on (ended (truncated _ _ r (t .truncate .ensures) (le-refl _) (r .points .more) (mark-fits (hop (kept-way t .before .before .before)))))
+    on (ended (truncated _ _ r (t .truncate .ensures) (le-refl _) (r .points .more) (mark-fits (hop (flown (kept-way t))))))
 
 pub fly-spec : {M : Type 1} → statement M
 fly-spec =
@@ -182,26 +143,26 @@ fly-spec =
     (tie.spec
     returns
     push-point-requires
-    enum-known-pushed
-    same-length
+    (λ c. search needs)
+    (λ c. returns-2 c [] .points .long)
     returns-2
-    enum-known-pushed-2
+    (λ c. search needs)
     (λ c κs. tt)
     hop-requires
-    enum-known-flight
-    enum-known-flight-2
-    enum-known-flight-3
-    enum-told
-    enum-known-way
+    (λ c. search needs)
+    (λ c. search needs)
+    (λ c. search needs)
+    (λ c. search needs)
+    (λ c. search needs)
     (λ c κs. tt)
     truncate-requires
-    same-length-2
+    (λ c. returns-3 c [] .points .long)
     returns-3
-    same-length-3
+    (λ c. returns-4 c [] .points .long)
     returns-4
-    same-length-4
+    (λ c. returns-5 c [] .points .long)
     returns-5
-    same-length-5
+    (λ c. returns-6 c [] .points .long)
     returns-6
-    same-length-6
+    (λ c. returns-7 c [] .points .long)
     returns-7)

@@ -6,9 +6,9 @@ use Rattle.strike.proofs.leave_of.Tie as tie
 returns : tie.Need-returns
 unfolding dropped
 returns c =
-    let at-if1 = c .before .before .before in
-    let at-slip = at-if1 .before .before .before in
-    let at-dot = at-slip .before .before .before in
+    let at-if1 : tie.Then1 = search in
+    let at-slip : tie.After-slip = search in
+    let at-dot : tie.After-dot = search in
     simp (
       ← at-dot .before .before .normalize .ensures,
       ← at-dot .before .radius-m .ensures,
@@ -24,8 +24,8 @@ returns c =
 returns-2 : tie.Need-returns-2
 unfolding dropped
 returns-2 c =
-    let at-slip = c .before .before .before in
-    let at-dot = at-slip .before .before .before in
+    let at-slip : tie.After-slip = search in
+    let at-dot : tie.After-dot = search in
     simp (
       ← at-dot .before .before .normalize .ensures,
       ← at-dot .before .radius-m .ensures,

@@ -6,7 +6,7 @@ use Rattle.strike.proofs.rebounds.Tie as tie
 
 returns : tie.Need-returns
 unfolding rebounds ofBits round
-returns c = simp (← c .before .before .before .before .normalize .ensures, ← c .before .before .before .dot .ensures, c .before .before .if1 .taken)
+returns c = let d : tie.After-dot = search in simp (← d .before .normalize .ensures, ← d .dot .ensures, c .before .before .if1 .taken)
 
 returns-2 : tie.Need-returns-2
 unfolding rebounds ofBits round

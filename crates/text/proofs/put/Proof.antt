@@ -35,12 +35,13 @@ loop-less c = omega arith
 
 loop-again : tie.Need-loop-again Inv-loop μ-loop
 loop-again c =
-    let a = c .before .before .before .args in
-    let h : a .at + c .before .before .loop .i < length (a .out .now) = omega arith in (
-      rw (c .before .before .loop .inv .0, add-one)
-          (paste-suc (a .out .now) (a .at) (a .word .now) (c .before .before .loop .i) 0 h (c .before .loop-test .taken)),
+    let at-loop : tie.At-loop Inv-loop μ-loop = search in
+    let a = at-loop .before .args in
+    let h : a .at + at-loop .loop .i < length (a .out .now) = omega arith in (
+      rw (at-loop .loop .inv .0, add-one)
+          (paste-suc (a .out .now) (a .at) (a .word .now) (at-loop .loop .i) 0 h (c .before .loop-test .taken)),
       omega arith,
-      simp length-set (c .before .before .loop .inv .2),
+      simp length-set (at-loop .loop .inv .2),
     )
 
 add-result : tie.Need-add-result Inv-loop μ-loop
@@ -51,9 +52,10 @@ same-length c = c .before .loop .inv .2
 
 returns : tie.Need-returns Inv-loop μ-loop
 returns c =
-    let a = c .before .before .args in
+    let start : tie.Start Inv-loop μ-loop = search in
+    let a = start .args in
     let e : c .before .loop .i ≡ length (a .word .now) = omega arith in
-    rw (c .before .loop .inv .0, e) (adds (a .out .now) (a .at) (a .word .now) (c .before .before .pre))
+    rw (c .before .loop .inv .0, e) (adds (a .out .now) (a .at) (a .word .now) (start .pre))
 
 pub put-spec : {M : Type 1} → statement M
 put-spec =

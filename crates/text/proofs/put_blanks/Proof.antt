@@ -44,11 +44,12 @@ loop-less c = omega arith
 
 loop-again : tie.Need-loop-again Inv-loop μ-loop
 loop-again c =
-    let a = c .before .before .args in
-    let h : a .at + c .before .loop .i < length (a .out .now) = omega arith in (
-      rw (c .before .loop .inv .0, add-one) (more (a .out .now) (a .at) (a .n) (c .before .loop .i) h (c .loop-test .taken)),
+    let at-loop = c .before in
+    let a = at-loop .before .args in
+    let h : a .at + at-loop .loop .i < length (a .out .now) = omega arith in (
+      rw (at-loop .loop .inv .0, add-one) (more (a .out .now) (a .at) (a .n) (at-loop .loop .i) h (c .loop-test .taken)),
       omega arith,
-      simp length-set (c .before .loop .inv .2),
+      simp length-set (at-loop .loop .inv .2),
     )
 
 add-result : tie.Need-add-result Inv-loop μ-loop
@@ -59,9 +60,10 @@ same-length c = c .before .loop .inv .2
 
 returns : tie.Need-returns Inv-loop μ-loop
 returns c =
-    let a = c .before .before .args in
+    let start : tie.Start Inv-loop μ-loop = search in
+    let a = start .args in
     let e : c .before .loop .i ≡ a .n = omega arith in
-    rw (c .before .loop .inv .0, e) (filled (a .out .now) (a .at) (a .n) (c .before .before .pre))
+    rw (c .before .loop .inv .0, e) (filled (a .out .now) (a .at) (a .n) (start .pre))
 
 pub put-blanks-spec : {M : Type 1} → statement M
 put-blanks-spec =

@@ -20,21 +20,20 @@ number xs k n {l} {m} {o} {r} x e w h s =
 
 put-requires : tie.Need-put-requires
 put-requires c κs =
-    let at-start = c .before .before .before .before .before in
-    let a = at-start in
+    let at-start : tie.Start = search in
     let d = c .before .before .decimal in
     let e = d .ensures .0 .1 in
-    let k = few (a .args .n) (d .result) (a .fits .n .fits) (d .ensures .1 .0) in
+    let k = few (at-start .args .n) (d .result) (at-start .fits .n .fits) (d .ensures .1 .0) in
     omega arith
 
 returns : tie.Need-returns
 returns c =
-    let at-decimal = c .before .before .before .before .before in
-    let at-start = at-decimal .before .before .before in
-    let a = at-start in
+    let at-put : tie.After-put = search in
+    let at-decimal : tie.After-decimal = search in
+    let at-start : tie.Start = search in
     let d = at-decimal .decimal in
-    number _ (d .result) (a .args .n) (c .before .before .put .ensures) (d .ensures .1 .1) (d .ensures .1 .0)
-    (few (a .args .n) (d .result) (a .fits .n .fits) (d .ensures .1 .0)) (d .ensures .0 .1)
+    number _ (d .result) (at-start .args .n) (at-put .put .ensures) (d .ensures .1 .1) (d .ensures .1 .0)
+    (few (at-start .args .n) (d .result) (at-start .fits .n .fits) (d .ensures .1 .0)) (d .ensures .0 .1)
 
 pub put-number-spec : {M : Type 1} → statement M
 put-number-spec =

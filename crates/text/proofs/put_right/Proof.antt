@@ -6,9 +6,9 @@ use Rattle.text.proofs.put_right.Tie as tie
 
 returns : tie.Need-returns
 returns c =
-    let at-put-blanks = c .before .before .before .before .before .before in
-    let at-start = at-put-blanks .before .before .before .before in
-    right (at-start .pre .1) (at-put-blanks .put-blanks .ensures) (c .before .before .put .ensures)
+    let at-put : tie.After-put = search in
+    let at-put-blanks : tie.After-put-blanks = search in
+    right (at-put-blanks .before .before .before .before .pre .1) (at-put-blanks .put-blanks .ensures) (at-put .put .ensures)
 
 pub put-right-spec : {M : Type 1} → statement M
 put-right-spec =

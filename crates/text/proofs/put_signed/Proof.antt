@@ -8,7 +8,9 @@ use Rattle.text.proofs.put_signed.Tie as tie
 
 returns : tie.Need-returns
 unfolding signedOf
-returns c = rw (c .before .before .before .before .before .if1 .taken) (before (c .before .before .put .ensures) (c .put-number .ensures))
+returns c =
+    let at-put : tie.After-put = search in
+    rw (at-put .before .before .before .if1 .taken) (before (at-put .put .ensures) (c .put-number .ensures))
 
 returns-2 : tie.Need-returns-2
 unfolding signedOf

@@ -22,7 +22,7 @@ slice-aggregate-put-right c =
 put-right-requires : tie.Need-put-right-requires
 put-right-requires c κs =
     let x = c .before .before .put-signed .ensures .adds in
-    let a = c .before .before .before .before .before in
+    let a : tie.Start = search in
     (omega arith, subst (λ (t : List ℕ). length t ≤ a .args .w) (sym (starts x)) (a .pre .1))
 
 returns : tie.Need-returns

@@ -7,7 +7,9 @@ use Rattle.text.proofs.put_termination.Tie as tie
 
 returns : tie.Need-returns
 unfolding wordOf
-returns c = rw (c .before .before .before .before .before .enum-told .given .1) (record { adds = c .before .before .put .ensures; most = omega arith })
+returns c =
+    let at-put : tie.After-put = search in
+    rw (at-put .before .before .before .enum-told .given .1) (record { adds = at-put .put .ensures; most = omega arith })
 
 returns-2 : tie.Need-returns-2
 unfolding wordOf

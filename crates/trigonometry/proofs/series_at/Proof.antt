@@ -21,7 +21,8 @@ divides (suc zero) k g h =
     ap (λ (n : ℕ). n * (2 * k + 1)) e
 divides (suc (suc o)) k g h = absurd (omega arith)
 
-turn : (o k : ℕ) (s c : Float) → o ≤ 1 → 0 < k → series (divisor o) (k - 1) s (one ⊖ s ⊘ whole ((2 * k - 1 + o) * (2 * k + o)) ⊗ c) ≡ series (divisor o) k s c
+turn : (o k : ℕ) (s c : Float) → o ≤ 1 → 0 < k → series (divisor o) (k - 1) s (one ⊖ s ⊘ whole ((2 * k - 1 + o) * (2 * k + o)) ⊗ c)
+    ≡ series (divisor o) k s c
 unfolding series
 turn o zero s c g h = absurd (not-suc-le-zero h)
 turn o (suc k) s c g h =
@@ -50,7 +51,8 @@ Inv-loop s o c₀ k₀ c k = (k ≤ 10) × (series (divisor o) k s c ≡ series 
 abbrev μ-loop : tie.MeasureT-loop
 μ-loop s o c₀ k₀ c k = k
 
-at : (c : lts.In-loop reads.Pre reads.Post Inv-loop μ-loop) → (2 * c .before .loop .k - 1 + c .before .before .args .o) * (2 * c .before .loop .k + c .before .before .args .o) ≤ 420
+at : (c : lts.In-loop reads.Pre reads.Post Inv-loop μ-loop)
+    → (2 * c .before .loop .k - 1 + c .before .before .args .o) * (2 * c .before .loop .k + c .before .before .args .o) ≤ 420
 at c = small _ _ (c .before .before .pre) (c .before .loop .inv .0)
 
 loop-holds : tie.Need-loop-holds Inv-loop μ-loop

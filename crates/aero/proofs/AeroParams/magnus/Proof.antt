@@ -6,11 +6,24 @@ use Rattle.aero.proofs.AeroParams.magnus.Tie as tie
 
 returns : tie.Need-returns
 unfolding magnusOf ofBits round
-returns c = simp (← c .before .before .before .before .before .before .before .abs .ensures, ← c .before .before .before .before .cross .ensures, ← c .before .before .before .length .ensures, ← c .before .div .ensures, ← c .scale .ensures, c .before .before .if2 .taken, c .before .before .before .before .before .before .if1 .taken)
+returns c =
+    let at-length : tie.After-length = search in
+    let at-if1 : tie.Then1 = search in
+    simp (
+      ← at-if1 .before .abs .ensures,
+      ← at-length .before .cross .ensures,
+      ← at-length .length .ensures,
+      ← c .before .div .ensures,
+      ← c .scale .ensures,
+      c .before .before .if2 .taken,
+      at-if1 .if1 .taken,
+    )
 
 returns-2 : tie.Need-returns-2
 unfolding magnusOf ofBits round
-returns-2 c = simp (← c .before .before .before .before .before .abs .ensures, ← c .before .before .cross .ensures, ← c .before .length .ensures, c .if2 .left, c .before .before .before .before .if1 .taken)
+returns-2 c =
+    let at-if1 : tie.Then1 = search in
+    simp (← at-if1 .before .abs .ensures, ← c .before .before .cross .ensures, ← c .before .length .ensures, c .if2 .left, at-if1 .if1 .taken)
 
 returns-3 : tie.Need-returns-3
 unfolding magnusOf ofBits round

@@ -10,7 +10,21 @@ returns c = simp (← c .before .length .ensures, c .if1 .taken)
 
 returns-2 : tie.Need-returns-2
 unfolding accelerationOf ofBits round neg
-returns-2 c = simp (← c .before .before .before .before .before .before .before .before .before .before .before .before .length .ensures, ← c .before .before .before .before .before .before .before .before .before .before .div .ensures, ← c .before .before .before .before .before .before .before .before .before .cd-cl .ensures, ← c .before .before .before .before .before .before .before .before .area-m2 .ensures, ← c .before .before .before .before .before .scale .ensures, ← c .before .before .magnus .ensures, ← c .before .add .ensures, ← c .add2 .ensures, c .before .before .before .before .before .before .before .before .before .before .before .if1 .left)
+returns-2 c =
+    let at-scale : tie.After-scale = search in
+    let at-area-m2 : tie.After-area-m2 = search in
+    let at-if1 : tie.Else1 = search in
+    simp (
+      ← at-if1 .before .length .ensures,
+      ← at-area-m2 .before .before .div .ensures,
+      ← at-area-m2 .before .cd-cl .ensures,
+      ← at-area-m2 .area-m2 .ensures,
+      ← at-scale .scale .ensures,
+      ← c .before .before .magnus .ensures,
+      ← c .before .add .ensures,
+      ← c .add2 .ensures,
+      at-if1 .if1 .left,
+    )
 
 pub acceleration-spec : {M : Type 1} → statement M
 acceleration-spec =

@@ -10,7 +10,12 @@ returns c = simp (c .if1 .taken)
 
 returns-2 : tie.Need-returns-2
 unfolding cdClOf ofBits round
-returns-2 c = simp (← c .before .before .before .before .before .before .before .before .before .before .before .before .radius-m .ensures, ← c .before .before .before .before .before .before .before .before .before .before .before .abs .ensures, ← c .before .before .before .before .before .before .before .before .exp .ensures, ← c .exp2 .ensures, c .before .before .before .before .before .before .before .before .before .before .before .before .before .before .if1 .left)
+returns-2 c =
+    let at-struct-known5 : tie.After-struct-known5 = search in
+    let at-exp : tie.After-exp = search in
+    let at-abs : tie.After-abs = search in
+    let at-if1 : tie.Else1 = search in
+    simp (← at-abs .before .radius-m .ensures, ← at-abs .abs .ensures, ← at-exp .exp .ensures, ← c .exp2 .ensures, at-if1 .if1 .left)
 
 pub cd-cl-spec : {M : Type 1} → statement M
 cd-cl-spec = tie.close (tie.spec returns (λ c κs. tt) (λ c κs. tt) (λ c κs. tt) (λ c κs. tt) returns-2)

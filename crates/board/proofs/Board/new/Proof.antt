@@ -8,21 +8,9 @@ use Rattle.board.proofs.Board.new.Lts as lts
 use Rattle.board.proofs.empty.Reads as empty-reads
 use Rattle.number.proofs.within.Reads as within-reads
 
-within-requires : tie.Need-within-requires
-within-requires c κs = search needs
-
-within-requires-2 : tie.Need-within-requires-2
-within-requires-2 c κs = search needs
-
-empty-requires : tie.Need-empty-requires
-empty-requires c κs = search needs
-
 returns : tie.Need-returns
 unfolding newOf ofBits round neg
 returns c = simp (← c .before .before .within2 .ensures, ← c .before .before .before .within .ensures, c .before .if1 .taken, c .empty .ensures)
-
-empty-requires-2 : tie.Need-empty-requires-2
-empty-requires-2 c κs = search needs
 
 returns-2 : tie.Need-returns-2
 unfolding newOf ofBits round neg
@@ -31,4 +19,4 @@ returns-2 c = simp (← c .before .before .within2 .ensures, ← c .before .befo
 pub new-spec : {M : Type 1} → statement M
 new-spec =
     tie.close
-    (tie.spec within-requires within-requires-2 empty-requires returns empty-requires-2 returns-2)
+    (tie.spec (λ c κs. search needs) (λ c κs. search needs) (λ c κs. search needs) returns (λ c κs. search needs) returns-2)

@@ -10,15 +10,6 @@ use Rattle.board.proofs.Board.place.Reads as reads
 use Rattle.board.proofs.Board.place.Lts as lts
 use Rattle.board.proofs.shown.Reads as shown-reads
 
-shown-requires : tie.Need-shown-requires
-shown-requires c κs = search needs
-
-mul-e : tie.Need-mul-e
-mul-e c = search needs
-
-array-copy-out-e : tie.Need-array-copy-out-e
-array-copy-out-e c = search needs
-
 returns : tie.Need-returns
 unfolding placeOf
 returns c =
@@ -30,4 +21,4 @@ unfolding placeOf
 returns-2 c = rw (c .before .shown .ensures .size, le-ltb _ _ (c .if1 .left))
 
 pub place-spec : {M : Type 1} → statement M
-place-spec = tie.close (tie.spec shown-requires mul-e array-copy-out-e returns returns-2)
+place-spec = tie.close (tie.spec (λ c κs. search needs) (λ c. search needs) (λ c. search needs) returns returns-2)

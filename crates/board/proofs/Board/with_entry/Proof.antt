@@ -7,14 +7,8 @@ use Rattle.board.proofs.Board.with_entry.Reads as reads
 use Rattle.board.proofs.Board.with_entry.Lts as lts
 use Rattle.board.proofs.insert_entry.Reads as insert-entry-reads
 
-insert-entry-requires : tie.Need-insert-entry-requires
-insert-entry-requires c κs = search needs
-
-add-t6 : tie.Need-add-t6
-add-t6 c = search needs
-
 returns : tie.Need-returns
-returns c = one-more (c .before .before .args .self) (c .before .before .args .e) (c .before .before .pre .0) (c .insert-entry .ensures)
+returns c = one-more _ _ (c .before .before .pre .0) (c .insert-entry .ensures)
 
 pub with-entry-spec : {M : Type 1} → statement M
-with-entry-spec = tie.close (tie.spec insert-entry-requires add-t6 returns)
+with-entry-spec = tie.close (tie.spec (λ c κs. search needs) (λ c. search needs) returns)

@@ -26,12 +26,12 @@ replace-requires c κs = search needs
 returns-2 : tie.Need-returns-2
 unfolding dropOf
 returns-2 c =
-    let at-if1 = c .before .before .before in
+    let at-pack : tie.After-pack = search in
     rw (
-      sym (at-if1 .before .name-ok .ensures) ∙ not-false _ (at-if1 .if1 .left),
+      sym (at-pack .before .before .name-ok .ensures) ∙ not-false _ (at-pack .before .if1 .left),
       c .replace .ensures,
       c .before .empty-place .ensures,
-      c .before .before .pack .ensures,
+      at-pack .pack .ensures,
     )
 
 pub drop-spec : {M : Type 1} → statement M

@@ -17,7 +17,9 @@ array-copy-out-p c = search needs
 
 returns : tie.Need-returns
 unfolding given
-returns c = sym (ap given (there (c .before .before .before .find-from .ensures) _ (c .before .before .if1 .taken)))
+returns c =
+    let at-if1 : tie.Then1 = search in
+    sym (ap given (there (at-if1 .before .find-from .ensures) _ (at-if1 .if1 .taken)))
 
 zero-state-requires : tie.Need-zero-state-requires
 zero-state-requires c κs = search needs

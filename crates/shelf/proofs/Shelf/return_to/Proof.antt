@@ -25,7 +25,9 @@ look-up-requires c κs = search needs
 
 returns-2 : tie.Need-returns-2
 unfolding returnOf
-returns-2 c = rw (sym (c .before .before .before .name-ok .ensures) ∙ not-false _ (c .before .before .if1 .left), c .look-up .ensures, c .before .pack .ensures)
+returns-2 c =
+    let at-if1 : tie.Else1 = search in
+    rw (sym (at-if1 .before .name-ok .ensures) ∙ not-false _ (at-if1 .if1 .left), c .look-up .ensures, c .before .pack .ensures)
 
 pub return-to-spec : {M : Type 1} → statement M
 return-to-spec =

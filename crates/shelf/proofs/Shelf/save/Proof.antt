@@ -20,17 +20,17 @@ state-ok-requires c κs = search needs
 returns-2 : tie.Need-returns-2
 unfolding saveOf
 returns-2 c =
-    let at-name-ok = c .before .before .before in
+    let at-if1 : tie.Else1 = search in
     rw (
-      sym (at-name-ok .name-ok .ensures) ∙ not-false _ (c .before .before .if1 .left),
+      sym (at-if1 .before .name-ok .ensures) ∙ not-false _ (at-if1 .if1 .left),
       sym (c .before .state-ok .ensures) ∙ not-true _
           (c .if2 .taken),
     )
 
 pack-requires : tie.Need-pack-requires
 pack-requires c κs =
-    let at-name-ok = c .before .before .before in
-    name-short _ (sym (at-name-ok .name-ok .ensures) ∙ not-false _ (c .before .before .if1 .left))
+    let at-if1 : tie.Else1 = search in
+    name-short _ (sym (at-if1 .before .name-ok .ensures) ∙ not-false _ (at-if1 .if1 .left))
 
 keep-requires : tie.Need-keep-requires
 keep-requires c κs = search needs
@@ -38,11 +38,12 @@ keep-requires c κs = search needs
 returns-3 : tie.Need-returns-3
 unfolding saveOf
 returns-3 c =
-    let at-state-ok = c .before .before .before in
+    let at-if2 : tie.Else2 = search in
+    let at-if1 : tie.Else1 = search in
     rw (
-      sym (at-state-ok .before .before .name-ok .ensures) ∙ not-false _ (at-state-ok .before .if1 .left),
+      sym (at-if1 .before .name-ok .ensures) ∙ not-false _ (at-if1 .if1 .left),
       sym
-          (at-state-ok .state-ok .ensures) ∙ not-false _ (c .before .before .if2 .left),
+          (at-if2 .before .state-ok .ensures) ∙ not-false _ (at-if2 .if2 .left),
       c .keep .ensures,
       c .before .pack .ensures,
     )

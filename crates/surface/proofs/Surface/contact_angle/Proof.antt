@@ -20,7 +20,17 @@ returns c = simp (c .if1 .taken)
 
 returns-2 : tie.Need-returns-2
 unfolding contactAngle tiltedAngle ofBits round
-returns-2 c = simp (← thetaC-bits, ← refAngle-bits, c .min2 .ensures, c .before .before .min .ensures, c .before .before .before .arctangent .ensures, c .before .before .before .before .hypot .ensures, c .before .before .before .before .before .if1 .left)
+returns-2 c =
+    let at-arctangent = c .before .before .before in
+    simp (
+      ← thetaC-bits,
+      ← refAngle-bits,
+      c .min2 .ensures,
+      c .before .before .min .ensures,
+      at-arctangent .arctangent .ensures,
+      at-arctangent .before .hypot .ensures,
+      at-arctangent .before .before .if1 .left,
+    )
 
 pub contact-angle-spec : {M : Type 1} → statement M
 contact-angle-spec =
