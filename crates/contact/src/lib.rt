@@ -18,7 +18,8 @@ pub struct Locked {
     pub spin: DVec3,
 }
 
-// True only if (x, y, z) is (0, 1, 0), with zeros of either sign.
+// True only if (x, y, z) is (0, 1, 0), with zeros of either sign. By bits: 9223372036854775808 is 2^63, a sign's place, and 4607182418800017408 the
+// pattern of 1.
 fn is_level(x: f64, y: f64, z: f64) -> bool
     ensures { λ r. ⌜ (r ≡ true → vnormalize (vec x y z) ≡ vec x y z) ⌝ }
 {

@@ -27,7 +27,7 @@ loop-holds : tie.Need-loop-holds Inv-loop μ-loop
 loop-holds c = (omega arith, λ l. rw (evaluated-0 l))
 
 add-made : tie.Need-add-made Inv-loop μ-loop
-add-made c = omega (arith, c .before .loop-test .taken)
+add-made c = let t : tie.In-loop Inv-loop μ-loop = search in omega (arith, t .loop-test .taken)
 
 -- the evaluation that was made
 abbrev made : tie.After-narrow Inv-loop μ-loop → tie.After-clearance-at Inv-loop μ-loop
