@@ -1,4 +1,6 @@
 // The ball and its flight through the air: drag, Magnus lift and gravity.
+#![tactic(auto)]
+
 ghost use Rattle.std.specs.Prelude.{◌≡◌};
 ghost use Rattle.aero.specs.Aero.{tour, radius_of, area_of, cd_cl_of, magnus_of, from_spin_vector, acceleration_of};
 

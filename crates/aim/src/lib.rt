@@ -1,4 +1,6 @@
 // Where a ball must land fast (02, paper 10): the first landing of a grid whose run comes to rest near a wanted spot.
+#![tactic(auto)]
+
 ghost use Rattle.std.specs.Prelude.{◌≡◌, ◌≤◌, [], ◌∷◌, length};
 ghost use Rattle.course.specs.Index.{Ready};
 ghost use Rattle.ground.specs.Tests.{refusal_of};

@@ -1,4 +1,6 @@
 // What the door dimple_aim does but for its result: aim, over the input of the program settle, with the landing as ten doubles.
+#![tactic(auto)]
+
 ghost use Rattle.std.specs.Prelude.{◌≡◌, length};
 ghost use Rattle.aim.specs.Aim.{aim as given};
 ghost use Rattle.aim_door.specs.AimInput.{aim_input_of, into, into_of};

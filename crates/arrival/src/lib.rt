@@ -1,4 +1,6 @@
 // Where a hop step meets the ground: clearance, first_crossing, find_root and hop_arrival of ground.rs.
+#![tactic(auto)]
+
 ghost use Rattle.std.specs.Prelude.{◌≡◌, ◌+◌, ◌≤◌};
 ghost use Rattle.course.specs.Sheet.{course_of};
 ghost use Rattle.course.specs.Index.{Ready};

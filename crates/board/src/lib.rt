@@ -1,4 +1,6 @@
 // The board: the balls of a league ranked by their distance from the pin, those at rest first.
+#![tactic(auto)]
+
 ghost use Rattle.std.specs.Prelude.{◌≡◌, ◌+◌, ◌≤◌, ◌<◌, ◌++◌, length, take, drop};
 ghost use Rattle.board.specs.Rules.{key_of, moving, by_first, cleaner, is_before, insert, holds, one, used, answer_of};
 ghost use Rattle.board.specs.Board.{listing, new_of, empty_board, with_entry, enter_of, place_of};

@@ -1,5 +1,7 @@
 // What other languages call. Lengths count doubles, or bytes for a sheet, an input, a page and marks. Every call is taken and answered; 100 and up are
 // these functions' own answers.
+#![tactic(auto)]
+
 ghost use Rattle.std.specs.Prelude.{◌≡◌, length};
 ghost use Rattle.capi.specs.Doors.{state_length, reported, stepped, struck, door, settle_door, settle_door_of, settle_fading_door_of, step_door_of, impact_door_of, height_door_of};
 ghost use Rattle.capi.specs.Aims.{aim_door, aim_door_of};

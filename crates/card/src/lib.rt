@@ -1,4 +1,6 @@
 // The printed shot card: a settle, and its contacts as lines of 60 bytes.
+#![tactic(auto)]
+
 ghost use Rattle.std.specs.Prelude.{◌≡◌, ◌+◌, ◌*◌, ◌≤◌, length};
 ghost use Rattle.ground.specs.Settle.{result_of};
 ghost use Rattle.text.specs.Text.{Fills, right_of};

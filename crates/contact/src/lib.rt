@@ -1,4 +1,6 @@
 // A ball on the ground: slip, rolling, following the surface, the end of a train of hops.
+#![tactic(auto)]
+
 ghost use Rattle.std.specs.Prelude.{◌≡◌, true, ◌&&◌};
 ghost use Rattle.std.specs.Float.Ieee.{eq};
 ghost use Rattle.vector.specs.Vec.{vec, vnormalize, same_vec};

@@ -1,4 +1,6 @@
 // exp of a double. A power of two is made from its exponent's bits.
+#![tactic(auto)]
+
 ghost use Rattle.std.specs.Prelude.{◌≡◌, ◌<◌};
 ghost use Rattle.exponential.specs.Exp.{power, exp_of, horner, one};
 

@@ -1,4 +1,6 @@
 // Structs in a slice of doubles, field after field, and a run of doubles written at a place.
+#![tactic(auto)]
+
 ghost use Rattle.std.specs.Prelude.{◌≡◌, ◌+◌, ◌≤◌, length};
 ghost use Rattle.fields.specs.Fields.{whole_of, nat_of, is_whole, state_fields, vec_at, state_at, ball_at, written};
 

@@ -1,4 +1,6 @@
 // A ball's flight during a hop: one step of it, its path within a step, and the time of a fall.
+#![tactic(auto)]
+
 ghost use Rattle.std.specs.Prelude.{◌≡◌};
 ghost use Rattle.flight.specs.Flight.{accel_of, flight_step};
 ghost use Rattle.flight.specs.Arc.{hermite_pos, hermite_vel, hermite_of, parabola_of, drop_time};

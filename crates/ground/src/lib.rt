@@ -1,4 +1,6 @@
 // What callers see of a ball that lands: settle, step and impact, with the tests of what is handed in (01).
+#![tactic(auto)]
+
 ghost use Rattle.std.specs.Prelude.{◌≡◌, length};
 ghost use Rattle.course.specs.Index.{Ready};
 ghost use Rattle.sheet.specs.Sheet.{answer_of};

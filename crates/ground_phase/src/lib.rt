@@ -1,4 +1,6 @@
 // The ground phase: the second loop of settle of ground.rs, with the tests and the count of 01, and the point at t_end.
+#![tactic(auto)]
+
 ghost use Rattle.std.specs.Prelude.{◌≡◌};
 ghost use Rattle.course.specs.Sheet.{course_of};
 ghost use Rattle.course.specs.Index.{Ready};

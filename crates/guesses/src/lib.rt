@@ -1,4 +1,6 @@
 // Doors that tell whether a guess is right, for the comparison with the Rust to count (compare/). No program needs them.
+#![tactic(auto)]
+
 ghost use Rattle.std.specs.Prelude.{◌≡◌};
 ghost use Rattle.root.specs.Inner.{Guess};
 ghost use Rattle.root.specs.Guess.{guess_of};

@@ -1,4 +1,6 @@
 // A hop: flight from a rebound until the ball meets the ground again or t_end comes; hop of ground.rs.
+#![tactic(auto)]
+
 ghost use Rattle.std.specs.Prelude.{◌≡◌, ◌<◌};
 ghost use Rattle.number.specs.Ops.{◌⊕◌};
 ghost use Rattle.course.specs.Sheet.{course_of};

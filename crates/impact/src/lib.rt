@@ -1,4 +1,6 @@
 // The impact of a ball on the ground: Penner's tilted contact plane, friction that grips or slides, and pivot friction.
+#![tactic(auto)]
+
 ghost use Rattle.std.specs.Prelude.{◌≡◌};
 ghost use Rattle.impact.specs.Impact.{unit_or_zero, effective_normal, friction_impulse, pivoted, struck, impact_of};
 

@@ -1,4 +1,6 @@
 // The input of the program settle: 240 bytes, 8 a field, little-endian, and then the course sheet (01, "Lists and the rest of the shop").
+#![tactic(auto)]
+
 ghost use Rattle.std.specs.Prelude.{◌≡◌, ◌+◌, ◌*◌, ◌≤◌, length};
 ghost use Rattle.ground.specs.Settle.{result_of};
 ghost use Rattle.input.specs.Input.{whole_at, real_at, vec_at, physics_at, ball_at, landing_at, shot_by, settle_input_by};

@@ -1,4 +1,6 @@
 // A board as doubles: the pin's x and z, the count, then 256 entries, each shot, bay, termination, contacts, x, z.
+#![tactic(auto)]
+
 ghost use Rattle.std.specs.Prelude.{◌≡◌, ◌+◌, ◌*◌, ◌≤◌, ◌++◌, length, take};
 ghost use Rattle.fields.specs.Fields.{written};
 ghost use Rattle.layout.specs.Layout.{width, board_length, number_of, termination_of, least_at, entry_ok, entry_at};

@@ -1,4 +1,6 @@
 // The line that the program settle prints: `answer N`, and from accepted input also the termination and the three counts.
+#![tactic(auto)]
+
 ghost use Rattle.std.specs.Prelude.{◌≡◌, ◌+◌, ◌≤◌, ◌++◌, length};
 ghost use Rattle.text.specs.Text.{Puts, decimal_of};
 ghost use Rattle.line.specs.Line.{counts_of, shown_of, wrote, written_line};

@@ -1,4 +1,6 @@
 // The bay's microphones (02, paper 14): the times heard, held against a run's contact times.
+#![tactic(auto)]
+
 ghost use Rattle.std.specs.Prelude.{◌≡◌, ◌+◌, ◌-◌, ◌*◌, ◌≤◌, ◌<◌, length, replicate};
 ghost use Rattle.std.proofs.lemmas.List.Edits.{sets};
 ghost use Rattle.listen.specs.Listen.{record_width, firsts, contact_times, time_ok, times_ok, contacts_whole, all_times_ok, tolerance_ok, refusal_of};

@@ -1,4 +1,6 @@
 // Looks at a course: the spot's test, what comes of a look, and the rectangle of the spots looked at (01, "Course sheet").
+#![tactic(auto)]
+
 ghost use Rattle.std.specs.Prelude.{◌≡◌};
 ghost use Rattle.look.specs.Rect.{lesser, greater, widen, spot_ok, no_rect};
 

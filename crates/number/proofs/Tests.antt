@@ -1,11 +1,10 @@
 -- What the code's tests of a double say. Assumes nothing.
-use Rattle.std.proofs.Common.{◌≡◌, ℕ, zero, suc, ◌+◌, ◌-◌, ◌*◌, ◌/◌, ◌^◌, ◌<◌, ◌≤◌, Bool, true, false, cond, not, ◌&&◌, ◌||◌, T, eqb, ltb, ℤ, pos, sym, refl, ap, ◌∙◌, subst, true≢false, zero-le, zero-lt-suc, mul-pos, one-mul, zero-add, zero-mul, mul-one, arith, ltb-false, ltb-true, le-ltb}
+use Rattle.std.proofs.Common.{◌≡◌, ℕ, ◌+◌, ◌-◌, ◌*◌, ◌/◌, ◌^◌, ◌<◌, ◌≤◌, Bool, true, false, cond, not, ◌&&◌, ◌||◌, T, eqb, ltb, ℤ, pos, sym, refl, ap, ◌∙◌, subst, true≢false, zero-le, zero-lt-suc, mul-pos, one-mul, zero-add, zero-mul, mul-one, arith, le-ltb}
 use mathlib.Core.Bool.{beq, false≢true}
-use native.Mathlib.Nat.{zero-div}
 use lib.Dec.{eqb_refl}
-use lib.Ieee.{Float, nan, inf, fin, binary64, up, down, round, sum, sub, neg, lt, eq, le, ne, is_nan, fits, of_bits, to_bits, size, hid}
+use lib.Ieee.{Float, nan, inf, fin, binary64, up, down, round, sum, sub, neg, eq, le, ne, is_nan, fits, of_bits, to_bits, size}
 use lib.Ieee.Bits.{is_true, to_bits-lt}
-use lib.Ieee.Fits.{up_pos, down_pos, neg-fits}
+use lib.Ieee.Fits.{down_pos, neg-fits}
 use lib.Ieee.Scale.{round_same}
 use Rattle.number.specs.Number.{finite_of, signum_of, abs_of}
 use Rattle.number.specs.Order.{le→, →le}

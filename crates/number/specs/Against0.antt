@@ -18,6 +18,10 @@ use Rattle.number.specs.Rounding.{on_grid, round-le, round_above, round_below, s
 -- < and then ≤, also to an infinity
 pub lt_through : (x y z : Float) → T (finite_of x) → T (finite_of y) → T (lt x y) → T (le y z) → T (lt x z)
 lt_through (fin s m e) (fin t n d) nan i j p q = absurd (unfold le in q)
+lt_through nan y z i j p q = elim i [ ]
+lt_through (inf _) y z i j p q = elim i [ ]
+lt_through (fin s m e) nan z i j p q = elim j [ ]
+lt_through (fin s m e) (inf _) z i j p q = elim j [ ]
 lt_through (fin s m e) (fin t n d) (inf true) i j p q = absurd (unfold le in q)
 lt_through (fin s m e) (fin t n d) (inf false) i j p q = unfold lt in tt
 lt_through (fin s m e) (fin t n d) (fin u l g) i j p q = lt-le_trans (fin s m e) (fin t n d) (fin u l g) i j tt p q
@@ -36,6 +40,10 @@ not_positive t n d h =
 
 pub add_shrinks : (x y : Float) → T (fits binary64 x) → T (finite_of x) → T (finite_of y) → T (le y (dec 0 1)) → T (le (x ⊕ y) x)
 unfolding add
+add_shrinks nan y f i j h = elim i [ ]
+add_shrinks (inf _) y f i j h = elim i [ ]
+add_shrinks (fin s m e) nan f i j h = elim j [ ]
+add_shrinks (fin s m e) (inf _) f i j h = elim j [ ]
 add_shrinks (fin s m e) (fin t n d) f i j h =
     let A = summed binary64 s (m * up e * down d) t (n * up d * down e) (down e * down d) in
     rw A.is
@@ -96,6 +104,10 @@ kept a c p h =
 
 pub sub_positive : (x y : Float) → T (fits binary64 x) → T (fits binary64 y) → T (finite_of x) → T (finite_of y) → T (lt x y) → T (lt (dec 0 1) (y ⊖ x))
 unfolding sub neg add
+sub_positive nan y f g i j h = elim i [ ]
+sub_positive (inf _) y f g i j h = elim i [ ]
+sub_positive (fin s m e) nan f g i j h = elim j [ ]
+sub_positive (fin s m e) (inf _) f g i j h = elim j [ ]
 sub_positive (fin s m e) (fin t n d) f g i j h =
     let L = 2 ^ low binary64 in
     let Y = n * up d * down e in
@@ -120,6 +132,10 @@ from_0_size true size a b c h l p = round-le binary64 false 0 1 true size c (zer
 
 pub sub_from_0 : (x y : Float) → T (finite_of x) → T (finite_of y) → T (le x y) → T (le (dec 0 1) (y ⊖ x))
 unfolding sub neg add
+sub_from_0 nan y i j h = elim i [ ]
+sub_from_0 (inf _) y i j h = elim i [ ]
+sub_from_0 (fin s m e) nan i j h = elim j [ ]
+sub_from_0 (fin s m e) (inf _) i j h = elim j [ ]
 sub_from_0 (fin s m e) (fin t n d) i j h =
     let Y = n * up d * down e in
     let X = m * up e * down d in
@@ -147,6 +163,8 @@ from_0 x i h = nlt-le x (dec 0 1) i (unfold round in tt) h
 -- time goes on: a double with what is not below 0 added is no less, where the sum is finite
 pub add_onward : (x y : Float) → T (fits binary64 x) → T (finite_of x) → NotBelow y → T (finite_of (x ⊕ y)) → T (le x (x ⊕ y))
 add_onward (fin s m e) nan f i h k = absurd (unfold add in k)
+add_onward nan y f i h k = elim i [ ]
+add_onward (inf _) y f i h k = elim i [ ]
 add_onward (fin s m e) (inf t) f i h k = absurd (unfold add in k)
 add_onward (fin s m e) (fin t n d) f i h k = add_grows (fin s m e) (fin t n d) f tt tt (from_0 (fin t n d) tt h)
 
@@ -201,6 +219,14 @@ onward_le t u f i j h = rw h.is (add_onward t h.by f i h.forth (rw h.is at j))
 -- what is not below 0 and below a finite number is from 0 on
 pub below_from_0 : (x y : Float) → T (finite_of y) → NotBelow x → T (lt x y) → T (le (dec 0 1) x)
 below_from_0 nan (fin t n d) j h k = absurd (unfold lt in k)
+below_from_0 nan nan j h k = elim j [ ]
+below_from_0 nan (inf _) j h k = elim j [ ]
+below_from_0 (inf false) nan j h k = elim j [ ]
+below_from_0 (inf false) (inf _) j h k = elim j [ ]
+below_from_0 (inf true) nan j h k = elim j [ ]
+below_from_0 (inf true) (inf _) j h k = elim j [ ]
+below_from_0 (fin s m e) nan j h k = elim j [ ]
+below_from_0 (fin s m e) (inf _) j h k = elim j [ ]
 below_from_0 (inf true) (fin t n d) j h k = absurd (unfold round in unfold lt in h)
 below_from_0 (inf false) (fin t n d) j h k = absurd (unfold lt in k)
 below_from_0 (fin s m e) (fin t n d) j h k = from_0 (fin s m e) tt h
@@ -208,6 +234,8 @@ below_from_0 (fin s m e) (fin t n d) j h k = from_0 (fin s m e) tt h
 -- ---- the lesser of a finite number and another is the other only where that is less
 pub min_either : (P : Float → Type 0) (a b : Float) → T (finite_of a) → P a → (T (lt b a) → P b) → P (min_of a b)
 unfolding min_of is_nan
+min_either P nan b i p q = elim i [ ]
+min_either P (inf _) b i p q = elim i [ ]
 min_either P (fin s m e) b i p q = go (lt b (fin s m e)) q
   where
     go : (c : Bool) → (T c → P b) → P (cond c b (fin s m e))

@@ -120,6 +120,12 @@ chain s x E t y D u z G d h k =
 
 -- ---- ≤ is transitive
 pub le_chain : (x y z : Float) → T (finite_of x) → T (finite_of y) → T (finite_of z) → T (le x y) → T (le y z) → T (le x z)
+le_chain nan y z i j k p q = elim i [ ]
+le_chain (inf _) y z i j k p q = elim i [ ]
+le_chain (fin s m e) nan z i j k p q = elim j [ ]
+le_chain (fin s m e) (inf _) z i j k p q = elim j [ ]
+le_chain (fin s m e) (fin t n d) nan i j k p q = elim k [ ]
+le_chain (fin s m e) (fin t n d) (inf _) i j k p q = elim k [ ]
 le_chain (fin s m e) (fin t n d) (fin u l g) i j k p q =
     →le s m e u l g (chain s (m * up e) (down e) t (n * up d) (down d) u (l * up g) (down g) (down_pos d) (le→ s m e t n d p) (le→ t n d u l g q))
 
@@ -169,6 +175,10 @@ le_split x y t = or_split (lt x y) (eq x y) t
 
 pub nlt-le : (x y : Float) → T (finite_of x) → T (finite_of y) → T (not (lt x y)) → T (le y x)
 unfolding lt
+nlt-le nan y i j h = elim i [ ]
+nlt-le (inf _) y i j h = elim i [ ]
+nlt-le (fin s m e) nan i j h = elim j [ ]
+nlt-le (fin s m e) (inf _) i j h = elim j [ ]
 nlt-le (fin s m e) (fin t n d) i j h =
     →le t n d s m e
     (le_of_suc-le-suc (lt_of_not-le (λ (l : Lt s (m * up e * down d) t (n * up d * down e)).
@@ -177,6 +187,10 @@ nlt-le (fin s m e) (fin t n d) i j h =
 -- x < y and y ≤ x exclude each other
 pub lt-nle : (x y : Float) → T (finite_of x) → T (finite_of y) → T (lt x y) → T (le y x) → ⊥
 unfolding lt
+lt-nle nan y i j p q = elim i [ ]
+lt-nle (inf _) y i j p q = elim i [ ]
+lt-nle (fin s m e) nan i j p q = elim j [ ]
+lt-nle (fin s m e) (inf _) i j p q = elim j [ ]
 lt-nle (fin s m e) (fin t n d) i j p q =
     not-le_of_lt (read_lt s (m * up e * down d) t (n * up d * down e) p) (le→ t n d s m e q)
 
@@ -191,6 +205,8 @@ le_total x y i j = go (le x y) (λ (n : T (not (le x y))). lt-le y x (nle-lt x y
     go false f = inr (f tt)
 
 pub le_self : (x : Float) → T (finite_of x) → T (le x x)
+le_self nan i = elim i [ ]
+le_self (inf _) i = elim i [ ]
 le_self (fin s m e) i = →le s m e s m e (le_refl (pp s (m * up e * down e) + np s (m * up e * down e)))
 
 pub lt_irreflexive : (x : Float) → T (finite_of x) → T (lt x x) → ⊥
@@ -198,6 +214,10 @@ lt_irreflexive x i t = lt-nle x x i i t (le_self x i)
 
 pub le_antisym : (x y : Float) → T (finite_of x) → T (finite_of y) → T (le x y) → T (le y x) → T (eq x y)
 unfolding eq
+le_antisym nan y i j p q = elim i [ ]
+le_antisym (inf _) y i j p q = elim i [ ]
+le_antisym (fin s m e) nan i j p q = elim j [ ]
+le_antisym (fin s m e) (inf _) i j p q = elim j [ ]
 le_antisym (fin s m e) (fin t n d) i j p q =
     write_eq s (m * up e * down d) t (n * up d * down e) (le_antisymm (le→ s m e t n d p) (le→ t n d s m e q))
 
@@ -217,6 +237,10 @@ eq_self x i = le_antisym x x i i (le_self x i) (le_self x i)
 
 pub eq_sym : (x y : Float) → T (finite_of x) → T (finite_of y) → T (eq x y) → T (eq y x)
 unfolding eq
+eq_sym nan y i j h = elim i [ ]
+eq_sym (inf _) y i j h = elim i [ ]
+eq_sym (fin s m e) nan i j h = elim j [ ]
+eq_sym (fin s m e) (inf _) i j h = elim j [ ]
 eq_sym (fin s m e) (fin t n d) i j h = write_eq t (n * up d * down e) s (m * up e * down d) (sym (read_eq s (m * up e * down d) t (n * up d * down e) h))
 
 pub eq_trans : (x y z : Float) → T (finite_of x) → T (finite_of y) → T (finite_of z) → T (eq x y) → T (eq y z) → T (eq x z)
@@ -264,6 +288,8 @@ neg-le (fin s m e) (fin t n d) h = →le (not t) n d (not s) m e (turn s (m * up
 
 pub neg_finite : (x : Float) → T (finite_of x) → T (finite_of (neg x))
 unfolding neg
+neg_finite nan i = elim i [ ]
+neg_finite (inf _) i = elim i [ ]
 neg_finite (fin s m e) i = tt
 
 -- ---- a range
@@ -282,6 +308,10 @@ within_of_lem lo hi x p q = and_i (le lo x) (le x hi) p q
 pub between_finite : (lo hi x : Float) → T (finite_of lo) → T (finite_of hi) → T (le lo x) → T (le x hi) → T (finite_of x)
 unfolding le
 between_finite (fin s m e) (fin t n d) nan i j p q = p
+between_finite nan hi _ i j p q = elim i [ ]
+between_finite (inf _) hi _ i j p q = elim i [ ]
+between_finite (fin s m e) nan _ i j p q = elim j [ ]
+between_finite (fin s m e) (inf _) _ i j p q = elim j [ ]
 between_finite (fin s m e) (fin t n d) (inf true) i j p q = p
 between_finite (fin s m e) (fin t n d) (inf false) i j p q = q
 between_finite (fin s m e) (fin t n d) (fin u l g) i j p q = tt

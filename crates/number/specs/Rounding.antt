@@ -220,6 +220,14 @@ parts f s x D t y E c r = omega (arith, r.exact, (scale s x D).0, (scale s x D).
 
 pub add_mono : (x y z w : Float) → T (finite_of x) → T (finite_of y) → T (finite_of z) → T (finite_of w) → T (le x y) → T (le z w) → T (le (x ⊕ z) (y ⊕ w))
 unfolding add
+add_mono nan y z w i j a b p q = elim i [ ]
+add_mono (inf _) y z w i j a b p q = elim i [ ]
+add_mono (fin s m e) nan z w i j a b p q = elim j [ ]
+add_mono (fin s m e) (inf _) z w i j a b p q = elim j [ ]
+add_mono (fin s m e) (fin t n d) nan w i j a b p q = elim a [ ]
+add_mono (fin s m e) (fin t n d) (inf _) w i j a b p q = elim a [ ]
+add_mono (fin s m e) (fin t n d) (fin u l g) nan i j a b p q = elim b [ ]
+add_mono (fin s m e) (fin t n d) (fin u l g) (inf _) i j a b p q = elim b [ ]
 add_mono (fin s m e) (fin t n d) (fin u l g) (fin v k h) i j a b p q =
     let A = summed binary64 s (m * up e * down g) u (l * up g * down e) (down e * down g) in
     let B = summed binary64 t (n * up d * down h) v (k * up h * down d) (down d * down h) in
@@ -255,6 +263,10 @@ not_negative t n d h =
 
 pub add_grows : (x y : Float) → T (fits binary64 x) → T (finite_of x) → T (finite_of y) → T (le (dec 0 1) y) → T (le x (x ⊕ y))
 unfolding add
+add_grows nan y f i j h = elim i [ ]
+add_grows (inf _) y f i j h = elim i [ ]
+add_grows (fin s m e) nan f i j h = elim j [ ]
+add_grows (fin s m e) (inf _) f i j h = elim j [ ]
 add_grows (fin s m e) (fin t n d) f i j h =
     let A = summed binary64 s (m * up e * down d) t (n * up d * down e) (down e * down d) in
     subst (λ (r : Float). T (le (fin s m e) r)) (sym A.is)
@@ -283,6 +295,12 @@ mul_mono (fin s m e) (fin t n d) (fin true l g) i j k p q =
     let z : l * up g ≡ 0 = le_antisymm (not_negative true l g q) zero-le in
     round-le binary64 (unlike s true) (m * up e * (l * up g)) (down e * down g) (unlike t true) (n * up d * (l * up g)) (down d * down g) (mul-pos (down_pos e) (down_pos g)) (mul-pos (down_pos d) (down_pos g))
     (le_of_eq (both_zero (unlike s true) (m * up e * (l * up g) * (down d * down g)) (unlike t true) (n * up d * (l * up g) * (down e * down g)) (nothing (m * up e) (l * up g) (down d * down g) z) (nothing (n * up d) (l * up g) (down e * down g) z)))
+mul_mono nan y z i j k p q = elim i [ ]
+mul_mono (inf _) y z i j k p q = elim i [ ]
+mul_mono (fin s m e) nan z i j k p q = elim j [ ]
+mul_mono (fin s m e) (inf _) z i j k p q = elim j [ ]
+mul_mono (fin s m e) (fin t n d) nan i j k p q = elim k [ ]
+mul_mono (fin s m e) (fin t n d) (inf _) i j k p q = elim k [ ]
 mul_mono (fin s m e) (fin t n d) (fin false l g) i j k p q =
     round-le binary64 (unlike s false) (m * up e * (l * up g)) (down e * down g) (unlike t false) (n * up d * (l * up g)) (down d * down g) (mul-pos (down_pos e) (down_pos g)) (mul-pos (down_pos d) (down_pos g))
     (subst (λ (b : Bool). Le b (m * up e * (l * up g) * (down d * down g)) (unlike t false) (n * up d * (l * up g) * (down e * down g))) (sym (keeps s))
@@ -436,6 +454,8 @@ value_finite (inf t) s a c v = v
 value_finite (fin t m e) s a c v = tt
 
 pub half_twice : (x : Float) → T (fits binary64 x) → T (finite_of x) → T (about_of (dec 1000000 1) x) → (dec 1 2 ⊗ (x ⊕ x) ≡ x) × T (finite_of (x ⊕ x))
+half_twice nan f i a = elim i [ ]
+half_twice (inf _) f i a = elim i [ ]
 half_twice (fin s m e) f i a =
     let v = twice s m e f (about_size s m e a) in
     (half_of (fin s m e ⊕ fin s m e) s (m * up e) (down e) (down_pos e) v ∙ round_self binary64 s m e f, value_finite (fin s m e ⊕ fin s m e) s (m * up e * down e + m * up e * down e) (down e * down e) v)

@@ -1,4 +1,6 @@
 // What Rust's std gives for doubles: min, max, clamp, abs, signum and the range tests. Every function is total.
+#![tactic(auto)]
+
 ghost use Rattle.std.specs.Prelude.{◌≡◌};
 ghost use Rattle.number.specs.Number.{min_of, max_of, clamp_of, abs_of, signum_of, finite_of, within_of};
 

@@ -1,4 +1,6 @@
 // Doors to single functions, for the comparison with the Rust (compare/). No program needs them.
+#![tactic(auto)]
+
 ghost use Rattle.std.specs.Prelude.{◌≡◌, [], ◌∷◌, ◌+◌, ◌≤◌, length};
 ghost use Rattle.number.specs.Number.{min_of, max_of, clamp_of, abs_of, signum_of};
 ghost use Rattle.root.specs.Root.{root_of, hypot_of};

@@ -1,4 +1,6 @@
 // Records of one width in a lent list of doubles: the pushed records from the front, then +0.
+#![tactic(auto)]
+
 ghost use Rattle.std.specs.Prelude.{◌≡◌, ◌<◌, ◌/◌, length};
 ghost use Rattle.records.specs.Records.{zeroed, Pushes};
 

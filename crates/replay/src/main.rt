@@ -1,4 +1,6 @@
 // Replays the fixed list of the reference's answers (compare/README.md, "The fixed list") and prints how many entries differ.
+#![tactic(auto)]
+
 ghost use Rattle.std.specs.Prelude.{◌≡◌, ◌+◌, ◌<◌};
 
 use libc::STDOUT_FILENO;

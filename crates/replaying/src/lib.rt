@@ -1,4 +1,6 @@
 // An entry of the fixed list of the reference's answers (compare/README.md, "The fixed list"): 25 words of 8 bytes, then the input's bytes.
+#![tactic(auto)]
+
 ghost use Rattle.std.specs.Prelude.{◌≡◌, ◌+◌, ◌*◌, ◌≤◌, not, ◌&&◌, map, length, drop, ◌==◌, is_nan};
 ghost use Rattle.input.specs.Input.{whole_at, settle_input_of};
 ghost use Rattle.replaying.specs.Replaying.{bits_of, sums_of, count_words, doubles_of, sum_words, holds, no_nan, same_of, replayed_of};

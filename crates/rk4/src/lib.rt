@@ -1,4 +1,6 @@
 // The states that the two Runge-Kutta steppers advance, and the sums that their stages share.
+#![tactic(auto)]
+
 ghost use Rattle.std.specs.Prelude.{◌≡◌};
 ghost use Rattle.rk4.specs.Rk4.{moved, weighted, add_scaled};
 

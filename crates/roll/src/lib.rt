@@ -1,4 +1,6 @@
 // One pass of a ball on the ground: the ground loop's body in settle of ground.rs, with the tests and the count of 01.
+#![tactic(auto)]
+
 ghost use Rattle.std.specs.Prelude.{◌≡◌, ◌<◌};
 ghost use Rattle.course.specs.Sheet.{course_of};
 ghost use Rattle.course.specs.Index.{Ready};

@@ -1,4 +1,6 @@
 // One ground step of a ball: it slides, rolls or comes to rest.
+#![tactic(auto)]
+
 ghost use Rattle.std.specs.Prelude.{◌≡◌, true};
 ghost use Rattle.std.specs.Float.Ieee.{lt};
 ghost use Rattle.number.specs.Ops.{◌⊕◌, ◌⊗◌, ◌⊘◌, dec};

@@ -1,4 +1,6 @@
 // The square root of a double, rounded to the nearest. A float estimate, not proved to be near, is tested exactly in whole numbers. Where the test fails, it is corrected by 1, or a digit loop works out the root.
+#![tactic(auto)]
+
 ghost use Rattle.std.specs.Prelude.{◌≡◌, ◌+◌, ◌*◌, ◌<◌, ◌≤◌, true, not, T};
 ghost use Rattle.std.specs.Float.Ieee.{is_nan};
 ghost use Rattle.root.specs.Root.{root_of, hypot_of};

@@ -1,4 +1,6 @@
 // The whole number nearest k times a double, halves away from zero: its magnitude, worked out from the double's bits.
+#![tactic(auto)]
+
 ghost use Rattle.std.specs.Prelude.{◌≡◌, ◌≤◌, T};
 ghost use Rattle.number.specs.Ops.{dec};
 ghost use Rattle.number.specs.Number.{about_of};

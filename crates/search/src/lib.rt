@@ -1,4 +1,6 @@
 // The bounded search for a root: ground.rs, fn find_root, without its loop, which stands where the evaluation is known.
+#![tactic(auto)]
+
 ghost use Rattle.std.specs.Prelude.{◌≡◌};
 ghost use Rattle.search.specs.Search.{start, inside, in_bracket, halved_if, replaced, chord, next_try, onward, narrowed};
 

@@ -1,4 +1,6 @@
 // Reads an input from standard input, settles it and writes its line.
+#![tactic(auto)]
+
 ghost use Rattle.std.specs.Prelude.{◌≡◌};
 ghost use Rattle.input.specs.Input.{program_of};
 ghost use Rattle.line.specs.Line.{shown_of, wrote, written_line};

@@ -1,4 +1,6 @@
 // The course sheet (01, "Course sheet"): its numbers, read from bytes, and the tests 1 to 3.
+#![tactic(auto)]
+
 ghost use Rattle.std.specs.Prelude.{◌≡◌, ℕ, ◌+◌, ◌*◌, ◌≤◌, ◌<◌, length};
 ghost use Rattle.sheet.specs.Sheet.{surfaces, field, real, header_ok, restitution_ok, law_ok, surface_ok, edges_ok, patch_ok, all, answer_of};
 

@@ -1,4 +1,6 @@
 // The shelf: up to 16 states of a ball, kept under names.
+#![tactic(auto)]
+
 ghost use Rattle.std.specs.Prelude.{◌≡◌, ◌≤◌, eqb, length, drop, cond};
 ghost use Rattle.shelf.specs.Map.{is_letter, letters, name_ok, same, zero_state};
 ghost use Rattle.shelf.specs.Shelf.{packed, empty_place, empty_shelf, find, replaced, kept, given, save_of, return_of, drop_of, sound_name, sound_place, sound, Found};

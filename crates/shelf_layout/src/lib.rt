@@ -1,4 +1,6 @@
 // A shelf as 368 doubles, 16 places of 23, and the shelf's functions on such a list.
+#![tactic(auto)]
+
 ghost use Rattle.std.specs.Prelude.{◌≡◌, ◌+◌, ◌≤◌, map, length, take, drop};
 ghost use Rattle.fields.specs.Fields.{whole_of};
 ghost use Rattle.shelf.specs.Shelf.{return_of};

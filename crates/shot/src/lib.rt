@@ -1,4 +1,6 @@
 // What is handed in for a settle, the course and the lists aside, and the tests 4 to 7 of it (01, "Numbers for what was handed in").
+#![tactic(auto)]
+
 ghost use Rattle.std.specs.Prelude.{◌≡◌};
 ghost use Rattle.shot.specs.Physics.{physics_new};
 ghost use Rattle.shot.specs.Tests.{step_physics_ok, physics_ok, ball_ok, density_ok, vec_about, landing_ok, input_test};

@@ -1,4 +1,6 @@
 // A ball that slides on one ground sample.
+#![tactic(auto)]
+
 ghost use Rattle.std.specs.Prelude.{◌≡◌};
 ghost use Rattle.vector.specs.Vec.{vlength};
 ghost use Rattle.search.specs.Search.{find_root, counting, counted};

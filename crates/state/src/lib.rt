@@ -1,4 +1,6 @@
 // A ball's state, its phase, how a settle ended, and the test of a state (22).
+#![tactic(auto)]
+
 ghost use Rattle.std.specs.Prelude.{◌≡◌};
 ghost use Rattle.state.specs.State.{coord_ok, vec_ok, state_ok};
 

@@ -1,4 +1,6 @@
 // One impact of the train of settle of ground.rs: the strike, the rebound that is flown or not, the drop to the ground.
+#![tactic(auto)]
+
 ghost use Rattle.std.specs.Prelude.{◌≡◌};
 ghost use Rattle.course.specs.Sheet.{course_of};
 ghost use Rattle.course.specs.Index.{Ready};

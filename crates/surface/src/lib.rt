@@ -1,4 +1,6 @@
 // The ground's surfaces and what their laws give: restitution, rolling friction and Penner's contact angle.
+#![tactic(auto)]
+
 ghost use Rattle.std.specs.Prelude.{◌≡◌};
 ghost use Rattle.surface.specs.Surface.{fairway, green, coefficient_at, speed_factor, rolling_friction, contact_angle};
 

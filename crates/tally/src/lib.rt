@@ -1,4 +1,6 @@
 // What a settle carries along, and the words in which it runs: a step, a look, a test, a push (01's terms), each from a tally to the next.
+#![tactic(auto)]
+
 ghost use Rattle.std.specs.Prelude.{◌≡◌, ◌+◌, ◌*◌, ◌<◌, ◌≤◌, length};
 ghost use Rattle.course.specs.Sheet.{course_of};
 ghost use Rattle.course.specs.Index.{Ready};

@@ -1,4 +1,6 @@
 // Bytes written at a place: a word, a number in decimal, a word or a number right-aligned in a column, the word of a termination.
+#![tactic(auto)]
+
 ghost use Rattle.std.specs.Prelude.{◌≡◌, ◌+◌, ◌≤◌, length};
 ghost use Rattle.text.specs.Text.{Adds, Puts, Fills, blanks, decimal_of, signed_of, right_of, word_of};
 

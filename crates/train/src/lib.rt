@@ -1,4 +1,6 @@
 // The train of impacts, and then the ground: the first loop of settle of ground.rs, with the tests and the count of 01.
+#![tactic(auto)]
+
 ghost use Rattle.std.specs.Prelude.{◌≡◌, ◌<◌, ◌≤◌};
 ghost use Rattle.course.specs.Sheet.{course_of};
 ghost use Rattle.course.specs.Index.{Ready};

@@ -1,4 +1,6 @@
 // Cosine, sine and arctangent of 01, in its order of operations.
+#![tactic(auto)]
+
 ghost use Rattle.std.specs.Prelude.{◌≡◌, ◌≤◌};
 ghost use Rattle.trigonometry.specs.Trig.{cosine_of, sine_of, arctangent_of, angle_of, halved, series, divisor, odd_series, one};
 ghost use Rattle.number.specs.Ops.{◌⊘◌, dec};

@@ -1,4 +1,6 @@
 // Vectors of three doubles, with the arithmetic that document 01 gives `DVec3`.
+#![tactic(auto)]
+
 ghost use Rattle.std.specs.Prelude.{◌≡◌};
 ghost use Rattle.vector.specs.Vec.{vec, vadd, vsub, vscale, vdivs, vneg, vdot, vcross, vlength, vlength_squared, vnormalize, vnormalize_or_zero, same_vec};
 
