@@ -21,7 +21,7 @@ const AIR_DYNAMIC_VISCOSITY: f64 = 1.81e-5;
 const DEFAULT_SPIN_DECAY: f64 = 0.04;
 
 // Physical and aerodynamic properties of a golf ball.
-#[derive(Drop)]
+#[derive(Clone, Copy)]
 pub struct BallModel {
     pub mass_kg: f64,
     pub diameter_m: f64,
@@ -38,7 +38,7 @@ pub struct BallModel {
 }
 
 // Spin axis (unit vector), spin rate (rad/s) and spin decay (1/s) of a ball in flight.
-#[derive(Drop)]
+#[derive(Clone, Copy)]
 pub struct AeroParams {
     pub spin_axis: DVec3,
     pub spin_rate: f64,
@@ -46,7 +46,7 @@ pub struct AeroParams {
 }
 
 // Drag and lift coefficient.
-#[derive(Drop)]
+#[derive(Clone, Copy)]
 pub struct CdCl {
     pub cd: f64,
     pub cl: f64,

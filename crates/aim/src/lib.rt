@@ -13,7 +13,7 @@ use state::{BallState, Termination};
 use vector::DVec3;
 
 // The wanted resting spot, and how far from it a ball may lie.
-#[derive(Drop)]
+#[derive(Clone, Copy)]
 pub struct Target {
     pub x: f64,
     pub z: f64,
@@ -21,14 +21,14 @@ pub struct Target {
 }
 
 // A landing and the result of its settle; of no landing, all +0.
-#[derive(Drop)]
+#[derive(Clone, Copy)]
 pub struct Aimed {
     pub settled: Settled,
     pub landing: BallState,
 }
 
 // What a search through landings found.
-#[derive(Drop)]
+#[derive(Clone, Copy)]
 enum Search {
     Missed,
     Hit(Aimed),

@@ -22,7 +22,7 @@ const CROSSING_SUBSTEPS: u32 = 8;
 const ROOT_MAX_ITER: u64 = 200;
 
 // One step of a hop, of length h from a to b.
-#[derive(Drop)]
+#[derive(Clone, Copy)]
 pub struct Arc {
     pub air_density: f64,
     pub a: State,
@@ -45,13 +45,13 @@ fn arc_at(arc: Arc, tau: f64) -> State
 // ---- clearance
 
 // A number, or a spot that failed its test.
-#[derive(Drop)]
+#[derive(Clone, Copy)]
 pub enum Value {
     Off,
     At(f64),
 }
 
-#[derive(Drop)]
+#[derive(Clone, Copy)]
 pub struct ValueOut {
     pub what: Value,
     pub rect: Rect,
@@ -89,13 +89,13 @@ fn clearance_at(sheet: &[u8], index: &[u64], rect: Rect, arc: Arc, tau: f64) -> 
 // ---- the first crossing
 
 // The end of a sub-step as the bracket's new end, or a spot that failed its test.
-#[derive(Drop)]
+#[derive(Clone, Copy)]
 pub enum SubStep {
     Off,
     To(Bracket),
 }
 
-#[derive(Drop)]
+#[derive(Clone, Copy)]
 pub struct SubStepOut {
     pub how: SubStep,
     pub rect: Rect,
@@ -161,14 +161,14 @@ fn sub_step(
 }
 
 // A spot that failed its test, no crossing, or the sub-step with the first one.
-#[derive(Drop)]
+#[derive(Clone, Copy)]
 pub enum Crossing {
     Off,
     Nothing,
     At(Bracket),
 }
 
-#[derive(Drop)]
+#[derive(Clone, Copy)]
 pub struct CrossingOut {
     pub how: Crossing,
     pub rect: Rect,
@@ -217,7 +217,7 @@ fn first_crossing(
 // ---- the root in the bracket
 
 // The root, or a spot that failed its test; and the evaluations made, one stopped by its spot's test among them.
-#[derive(Drop)]
+#[derive(Clone, Copy)]
 pub struct RootOut {
     pub what: Value,
     pub evaluations: u64,
@@ -349,14 +349,14 @@ fn crossing_time(sheet: &[u8], index: &[u64], rect: Rect, arc: Arc, b: Bracket) 
 }
 
 // A spot that failed its test, no crossing, or the arrival.
-#[derive(Drop)]
+#[derive(Clone, Copy)]
 pub enum Arrival {
     Off,
     Nothing,
     At(BallState),
 }
 
-#[derive(Drop)]
+#[derive(Clone, Copy)]
 pub struct ArrivalOut {
     pub how: Arrival,
     pub evaluations: u64,
@@ -453,7 +453,7 @@ fn hop_arrival(
 // ---- both from tally to tally, as a pass of a hop asks them
 
 // The spot failed its test, or the clearance there.
-#[derive(Drop)]
+#[derive(Clone, Copy)]
 pub enum Cleared {
     Off,
     At(f64, Tally),
@@ -469,7 +469,7 @@ pub fn clear(sheet: &[u8], index: &[u64], t: Tally, pos: DVec3) -> Cleared
     Cleared::At(pos.y - s.height, t1)
 }
 
-#[derive(Drop)]
+#[derive(Clone, Copy)]
 pub enum Arrived {
     Off(Tally),
     Nothing(Tally),

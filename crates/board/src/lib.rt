@@ -9,7 +9,7 @@ ghost use Rattle.board.specs.Inner.{Shows, place_in, inserted_at};
 use state::Termination;
 
 // An entry: a shot's number and its bay, how its run ended, its count of contacts, and where its ball was then.
-#[derive(Drop)]
+#[derive(Clone, Copy)]
 pub struct Entry {
     pub shot: u32,
     pub bay: u32,
@@ -20,7 +20,7 @@ pub struct Entry {
 }
 
 // The pin, and the first `count` of the entries, in the order of the listing.
-#[derive(Drop)]
+#[derive(Clone, Copy)]
 pub struct Board {
     pub pin_x: f64,
     pub pin_z: f64,
@@ -28,13 +28,13 @@ pub struct Board {
     pub entries: [Entry; 256],
 }
 
-#[derive(Drop)]
+#[derive(Clone, Copy)]
 pub struct Entered {
     pub answer: u32,
     pub board: Board,
 }
 
-#[derive(Drop)]
+#[derive(Clone, Copy)]
 pub struct Placed {
     pub answer: u32,
     pub shot: u32,

@@ -12,7 +12,7 @@ use surface::{GroundSample, Surface};
 use vector::DVec3;
 
 // Velocity and spin of a ball that rolls.
-#[derive(Drop)]
+#[derive(Clone, Copy)]
 pub struct Locked {
     pub vel: DVec3,
     pub spin: DVec3,

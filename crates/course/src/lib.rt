@@ -225,7 +225,7 @@ fn scanned_height(sheet: &[u8], x: f64, z: f64) -> f64
     height_of(sheet, count, n, i, x, z)
 }
 
-#[derive(Drop)]
+#[derive(Clone, Copy)]
 pub struct HeightOut {
     pub answer: u32,
     pub height: f64,

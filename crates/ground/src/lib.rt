@@ -36,7 +36,7 @@ pub fn refusal(sheet: &[u8], shot: Shot, contacts: usize, points: usize) -> u32
 
 // ---- settle
 
-#[derive(Drop)]
+#[derive(Clone, Copy)]
 pub struct Settled {
     pub answer: u32,
     pub termination: Termination,
@@ -167,7 +167,7 @@ pub fn settle(sheet: &[u8], shot: Shot, contacts: &mut [f64], points: &mut [f64]
 
 // ---- one step, one impact
 
-#[derive(Drop)]
+#[derive(Clone, Copy)]
 pub struct StepOut {
     pub answer: u32,
     pub state: BallState,
@@ -267,7 +267,7 @@ pub fn step(
     step_made(sheet, dt, stop_speed, roll_threshold, ball, state)
 }
 
-#[derive(Drop)]
+#[derive(Clone, Copy)]
 pub struct ImpactOut {
     pub answer: u32,
     pub state: BallState,

@@ -15,14 +15,14 @@ use surface::GroundSample;
 use tally::{Conditions, PointPush, Tally};
 
 // How a run came back: with its end, or stopped by a number, 20 to 23.
-#[derive(Drop)]
+#[derive(Clone, Copy)]
 pub enum RunOut {
     Over(Ending, Tally),
     Ended(u32, Tally),
 }
 
 // How the ground phase came back: a run's end or stop; or a step is due that step_limit does not allow, with what the loop carries.
-#[derive(Drop)]
+#[derive(Clone, Copy)]
 pub enum GroundOut {
     Ran(RunOut),
     Due(Roll, Tally),

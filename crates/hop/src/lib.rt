@@ -23,21 +23,21 @@ const SAMPLE_INTERVAL: f64 = 0.01;
 const FADE_RATE: f64 = 0.04;
 
 // Where a hop came to: the ground, or t_end.
-#[derive(Drop)]
+#[derive(Clone, Copy)]
 pub enum Way {
     Arrived(BallState),
     Late(BallState),
 }
 
 // What a hop carries from pass to pass.
-#[derive(Drop)]
+#[derive(Clone, Copy)]
 pub struct Flight {
     pub state: BallState,
     pub next_sample: f64,
 }
 
 // A pass goes on, ends where the ball meets the ground, or stops by a number, 21 or 22.
-#[derive(Drop)]
+#[derive(Clone, Copy)]
 pub enum HopPass {
     On(Flight, Tally),
     Over(Way, Tally),
@@ -45,7 +45,7 @@ pub enum HopPass {
 }
 
 // How a hop came back: flown; a step is due that step_limit does not allow, with what the loop carries; or stopped by a number, 21 or 22.
-#[derive(Drop)]
+#[derive(Clone, Copy)]
 pub enum HopOut {
     Flew(Way, Tally),
     Due(Flight, Tally),

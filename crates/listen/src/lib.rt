@@ -11,7 +11,7 @@ ghost use Rattle.listen.specs.Inner.{front_of, Walked};
 const CONTACT_WIDTH: usize = 20;
 
 // What one turn of the walk marks.
-#[derive(Drop)]
+#[derive(Clone, Copy)]
 enum Mark {
     Paired,
     HeardOnly,
@@ -19,7 +19,7 @@ enum Mark {
 }
 
 // The answer, and how many pairs, times heard only and contacts computed only there are.
-#[derive(Drop)]
+#[derive(Clone, Copy)]
 pub struct Heard {
     pub answer: u32,
     pub pairs: usize,

@@ -7,7 +7,7 @@ ghost use Rattle.look.specs.Rect.{lesser, greater, widen, spot_ok, no_rect};
 use surface::GroundSample;
 
 // The least and greatest x and z of the spots looked at so far; `seen` is whether there was one.
-#[derive(Drop)]
+#[derive(Clone, Copy)]
 pub struct Rect {
     pub seen: bool,
     pub x_lo: f64,
@@ -17,13 +17,13 @@ pub struct Rect {
 }
 
 // What comes of a look: the spot failed its test, or the sample there.
-#[derive(Drop)]
+#[derive(Clone, Copy)]
 pub enum Look {
     Off,
     Saw(GroundSample),
 }
 
-#[derive(Drop)]
+#[derive(Clone, Copy)]
 pub struct LookOut {
     pub what: Look,
     pub rect: Rect,

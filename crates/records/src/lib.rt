@@ -16,7 +16,7 @@ pub fn zero_from(list: &mut [f64], from: usize)
 }
 
 // The result of a push: no room, or the number of records now.
-#[derive(Drop)]
+#[derive(Clone, Copy)]
 pub enum Pushed {
     Full,
     Done(usize),

@@ -7,7 +7,7 @@ ghost use Rattle.replaying.specs.Replaying.{bits_of, sums_of, count_words, doubl
 
 use ground::Settled;
 
-#[derive(Drop)]
+#[derive(Clone, Copy)]
 pub enum Replayed {
     Same,
     Differs,
@@ -15,7 +15,7 @@ pub enum Replayed {
 }
 
 // The words 23 and 24: sums over the bits of every lent double after the call, contacts, then points.
-#[derive(Drop)]
+#[derive(Clone, Copy)]
 struct Sums {
     a: u64,
     b: u64,

@@ -7,14 +7,14 @@ ghost use Rattle.rk4.specs.Rk4.{moved, weighted, add_scaled};
 use vector::DVec3;
 
 // Position and velocity.
-#[derive(Drop)]
+#[derive(Clone, Copy)]
 pub struct State {
     pub pos: DVec3,
     pub vel: DVec3,
 }
 
 // Position, velocity and spin of a ball on the ground.
-#[derive(Drop)]
+#[derive(Clone, Copy)]
 pub struct Motion {
     pub pos: DVec3,
     pub vel: DVec3,

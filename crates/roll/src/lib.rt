@@ -15,21 +15,21 @@ use tally::{Conditions, Looked, PointPush, Tally, Tested};
 use vector::DVec3;
 
 // How a settle that went well ended, and its final state.
-#[derive(Drop)]
+#[derive(Clone, Copy)]
 pub struct Ending {
     pub how: Termination,
     pub state: BallState,
 }
 
 // The phase of the last step, if there was one: the Rust's `Option<Phase>`.
-#[derive(Drop)]
+#[derive(Clone, Copy)]
 pub enum LastPhase {
     None,
     Some(Phase),
 }
 
 // What the ground loop carries from pass to pass.
-#[derive(Drop)]
+#[derive(Clone, Copy)]
 pub struct Roll {
     pub state: BallState,
     pub at: GroundSample,
@@ -38,7 +38,7 @@ pub struct Roll {
 }
 
 // A pass goes on, ends at rest, or stops by a number, 21 or 22.
-#[derive(Drop)]
+#[derive(Clone, Copy)]
 pub enum RollPass {
     On(Roll, Tally),
     Over(Ending, Tally),

@@ -20,7 +20,7 @@ use surface::{GroundSample, RollLaw, Surface};
 use vector::DVec3;
 
 // The state after a ground step, the phase over it, whether the ball ends it rolling, and the evaluations of its search.
-#[derive(Drop)]
+#[derive(Clone, Copy)]
 pub struct Stepped {
     pub state: BallState,
     pub phase: Phase,
@@ -29,7 +29,7 @@ pub struct Stepped {
 }
 
 // What stays the same over one step of a ball that rolls.
-#[derive(Drop)]
+#[derive(Clone, Copy)]
 pub struct RollPatch {
     pub n: DVec3,
     pub surface: Surface,

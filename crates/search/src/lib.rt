@@ -8,7 +8,7 @@ ghost use Rattle.search.specs.Search.{start, inside, in_bracket, halved_if, repl
 const ROOT_TOL: f64 = 1e-12;
 
 // Both ends, and the value at each.
-#[derive(Drop)]
+#[derive(Clone, Copy)]
 pub struct Bracket {
     pub lo: f64,
     pub f_lo: f64,
@@ -17,21 +17,21 @@ pub struct Bracket {
 }
 
 // The bracket, the next place to evaluate, and the end that was replaced last: 0 none, 1 lo, 2 hi.
-#[derive(Drop)]
+#[derive(Clone, Copy)]
 pub struct Search {
     pub bracket: Bracket,
     pub x: f64,
     pub side: u8,
 }
 
-#[derive(Drop)]
+#[derive(Clone, Copy)]
 pub enum RootStep {
     Next(Search),
     Found(f64),
 }
 
 // The root found, and how many evaluations were made to find it.
-#[derive(Drop)]
+#[derive(Clone, Copy)]
 pub struct Root {
     pub x: f64,
     pub evaluations: u64,

@@ -9,24 +9,24 @@ use state::BallState;
 use vector::DVec3;
 
 // A place: a name's length and its 12 bytes, those past its length 0, and the state kept under it. A length of 0 is a free place.
-#[derive(Drop)]
+#[derive(Clone, Copy)]
 pub struct Place {
     pub name: [u8; 13],
     pub state: BallState,
 }
 
-#[derive(Drop)]
+#[derive(Clone, Copy)]
 pub struct Shelf {
     pub places: [Place; 16],
 }
 
-#[derive(Drop)]
+#[derive(Clone, Copy)]
 pub struct Saved {
     pub answer: u32,
     pub shelf: Shelf,
 }
 
-#[derive(Drop)]
+#[derive(Clone, Copy)]
 pub struct Returned {
     pub answer: u32,
     pub state: BallState,

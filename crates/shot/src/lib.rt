@@ -14,7 +14,7 @@ const DEFAULT_STOP_SPEED: f64 = 0.01;
 const DEFAULT_ROLL_THRESHOLD: f64 = 0.01;
 
 // The tunables of the ground phase; the terrain is passed beside them.
-#[derive(Drop)]
+#[derive(Clone, Copy)]
 pub struct GroundPhysics {
     pub dt: f64,
     pub stop_speed: f64,
@@ -42,7 +42,7 @@ impl GroundPhysics {
 
 // A landing and all that its settle depends on beside the course: the tunables, the most steps it may make, the ball, the air, and whether its spin fades
 // in the air (the second settle) or is held (the first).
-#[derive(Drop)]
+#[derive(Clone, Copy)]
 pub struct Shot {
     pub physics: GroundPhysics,
     pub step_limit: u64,

@@ -17,7 +17,7 @@ pub const SLIP_EPS: f64 = 1e-9;
 const MIN_SWITCH_SLIP: f64 = 1e-6;
 
 // The forces on a ball on one ground sample, per unit mass.
-#[derive(Drop)]
+#[derive(Clone, Copy)]
 pub struct Patch {
     pub n: DVec3,
     pub g_t: DVec3,
@@ -28,7 +28,7 @@ pub struct Patch {
 }
 
 // Where a slide ends, the time it takes, whether its slip reached zero, and the evaluations of its search.
-#[derive(Drop)]
+#[derive(Clone, Copy)]
 pub struct Slid {
     pub motion: Motion,
     pub time: f64,
@@ -37,7 +37,7 @@ pub struct Slid {
 }
 
 // A slide on a slope, whose slip direction turns: from where, when and in what slip direction it starts.
-#[derive(Drop)]
+#[derive(Clone, Copy)]
 pub struct Turning {
     pub patch: Patch,
     pub start: Motion,

@@ -7,7 +7,7 @@ ghost use Rattle.state.specs.State.{coord_ok, vec_ok, state_ok};
 use vector::DVec3;
 
 // Time (s), position (m), velocity (m/s) and angular velocity (rad/s) of the ball.
-#[derive(Drop)]
+#[derive(Clone, Copy)]
 pub struct BallState {
     pub time: f64,
     pub pos: DVec3,
@@ -16,7 +16,7 @@ pub struct BallState {
 }
 
 // What the ball does over a step.
-#[derive(Drop)]
+#[derive(Clone, Copy)]
 pub enum Phase {
     Hop,
     Slide,
@@ -24,7 +24,7 @@ pub enum Phase {
 }
 
 // How a settle ended.
-#[derive(Drop)]
+#[derive(Clone, Copy)]
 pub enum Termination {
     Nothing,
     Rest,

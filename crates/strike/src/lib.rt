@@ -17,20 +17,20 @@ use tally::{Conditions, Looked, PointPush, Push, Tally, Tested};
 // ---- an impact
 
 // The ground's sample and the state after the impact there.
-#[derive(Drop)]
+#[derive(Clone, Copy)]
 pub struct Struck {
     pub at: GroundSample,
     pub out: BallState,
 }
 
 // An impact, or 22.
-#[derive(Drop)]
+#[derive(Clone, Copy)]
 pub enum StrikeEnd {
     Hit(Struck),
     Off,
 }
 
-#[derive(Drop)]
+#[derive(Clone, Copy)]
 pub struct StrikeOut {
     pub end: StrikeEnd,
     pub tally: Tally,
@@ -82,20 +82,20 @@ pub fn rebounds(c: Conditions, hit: Struck) -> bool
 
 // ---- a rebound: flown and kept, or not flown or discarded
 
-#[derive(Drop)]
+#[derive(Clone, Copy)]
 pub enum Flown {
     Hop(Way),
     Ground,
 }
 
 // A rebound, or a stop by a number, 21 to 23.
-#[derive(Drop)]
+#[derive(Clone, Copy)]
 pub enum FlyEnd {
     Went(Flown),
     Ended(u32),
 }
 
-#[derive(Drop)]
+#[derive(Clone, Copy)]
 pub struct FlyOut {
     pub how: FlyEnd,
     pub tally: Tally,
@@ -186,13 +186,13 @@ pub fn fly(
 // ---- the drop to the ground
 
 // The state that slides or rolls away, or a stop by a number, 20 or 22.
-#[derive(Drop)]
+#[derive(Clone, Copy)]
 pub enum DropEnd {
     Left(BallState),
     Ended(u32),
 }
 
-#[derive(Drop)]
+#[derive(Clone, Copy)]
 pub struct DropOut {
     pub end: DropEnd,
     pub tally: Tally,

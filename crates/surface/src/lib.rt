@@ -19,14 +19,14 @@ const MIN_TILT_SPEED: f64 = 0.01;
 const TILT_ONSET_SPEED: f64 = 2.0;
 
 // Normal coefficient of restitution between ball and turf.
-#[derive(Drop)]
+#[derive(Clone, Copy)]
 pub enum Restitution {
     Constant(f64),
     Penner2002,
 }
 
 // Speed dependence of the rolling resistance.
-#[derive(Drop)]
+#[derive(Clone, Copy)]
 pub enum RollLaw {
     Constant,
     Quadratic { v_ref: f64 },
@@ -34,7 +34,7 @@ pub enum RollLaw {
 }
 
 // Material properties of a patch of ground.
-#[derive(Drop)]
+#[derive(Clone, Copy)]
 pub struct Surface {
     pub restitution: Restitution,
     pub mu_slide: f64,
@@ -45,7 +45,7 @@ pub struct Surface {
 }
 
 // The ground at one horizontal location: height, normal (not unit), the surface and its number on the course sheet.
-#[derive(Drop)]
+#[derive(Clone, Copy)]
 pub struct GroundSample {
     pub height: f64,
     pub normal: DVec3,

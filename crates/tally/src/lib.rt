@@ -28,7 +28,7 @@ pub const POINT_WIDTH: usize = 12;
 pub const CONTACT_WIDTH: usize = 20;
 
 // What stays the same throughout one settle.
-#[derive(Drop)]
+#[derive(Clone, Copy)]
 pub struct Conditions {
     pub physics: GroundPhysics,
     pub step_limit: u64,
@@ -63,7 +63,7 @@ pub fn next_after(due: bool, next: f64, from: f64) -> f64
 
 // The steps made, the evaluations of their root searches, the contacts and points pushed, the last state that passed its test, the rectangle
 // of the looks.
-#[derive(Drop)]
+#[derive(Clone, Copy)]
 pub struct Tally {
     pub steps: u64,
     pub evaluations: u64,
@@ -109,7 +109,7 @@ pub fn count_step(t: Tally, evaluations: u64) -> Tally
 // ---- a look
 
 // The spot failed its test, 22; or the sample there.
-#[derive(Drop)]
+#[derive(Clone, Copy)]
 pub enum Looked {
     Off,
     Saw(GroundSample, Tally),
@@ -163,7 +163,7 @@ pub fn look(sheet: &[u8], index: &[u64], t: Tally, x: f64, z: f64) -> Looked
 // ---- a test
 
 // The state failed test 22, or is the last that passed it.
-#[derive(Drop)]
+#[derive(Clone, Copy)]
 pub enum Tested {
     Bad,
     Good(Tally),
@@ -190,14 +190,14 @@ pub fn test(t: Tally, s: BallState) -> Tested
 // ---- pushes
 
 // The list was full, 20; or the contact is pushed.
-#[derive(Drop)]
+#[derive(Clone, Copy)]
 pub enum Push {
     Full,
     Made(Tally),
 }
 
 // A point: its spot failed the test, 22, or the list was full, 21; or it is pushed.
-#[derive(Drop)]
+#[derive(Clone, Copy)]
 pub enum PointPush {
     Ended(u32, Tally),
     Made(Tally),

@@ -4,7 +4,7 @@
 ghost use Rattle.std.specs.Prelude.{◌≡◌};
 ghost use Rattle.vector.specs.Vec.{vec, vadd, vsub, vscale, vdivs, vneg, vdot, vcross, vlength, vlength_squared, vnormalize, vnormalize_or_zero, same_vec};
 
-#[derive(Drop)]
+#[derive(Clone, Copy)]
 pub struct DVec3 {
     pub x: f64,
     pub y: f64,
