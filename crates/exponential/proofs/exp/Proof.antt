@@ -22,47 +22,47 @@ zero_is : of_bits binary64 0 ≡ fin false 0 (lib.IntN.pos 0)
 unfolding of_bits
 zero_is = refl
 
-total : (c : lts.Else3 (series-reads.Asked, series-reads.Learnt, power-at-reads.Asked, power-at-reads.Learnt) reads.Pre reads.Post)
+total : (c : lts.Else-x-3 (series-reads.Asked, series-reads.Learnt, power-at-reads.Asked, power-at-reads.Learnt) reads.Pre reads.Post)
     → Sum (shifted c.before.before.before.args.x)
 unfolding of_bits round
-total c = sum_of _ c.before.before.if1.false c.before.if2.false c.if3.false
+total c = sum_of _ c.before.before.if-x.false c.before.if-x-2.false c.if-x-3.false
 
-at : (c : lts.Else3 (series-reads.Asked, series-reads.Learnt, power-at-reads.Asked, power-at-reads.Learnt) reads.Pre reads.Post)
+at : (c : lts.Else-x-3 (series-reads.Asked, series-reads.Learnt, power-at-reads.Asked, power-at-reads.Learnt) reads.Pre reads.Post)
     → Index (shifted c.before.before.before.args.x)
 at c = index _ (add-fits binary64 (mul binary64 c.before.before.before.args.x log2e) shift_by) (total c)
 
-returns : tie.Need-returns
-returns c = at_nan _ c.if1.true
+returns : tie.Need-returns-then-x
+returns c = at_nan _ c.if-x.true
 
-returns-2 : tie.Need-returns-2
+returns-2 : tie.Need-returns-then-x-2
 unfolding of_bits round
-returns-2 c = infinite ∙ above _ c.before.if1.false c.if2.true
+returns-2 c = infinite ∙ above _ c.before.if-x.false c.if-x-2.true
 
-returns-3 : tie.Need-returns-3
+returns-3 : tie.Need-returns-then-x-3
 unfolding of_bits round
-returns-3 c = zero_is ∙ below _ c.before.before.if1.false c.before.if2.false c.if3.true
+returns-3 c = zero_is ∙ below _ c.before.before.if-x.false c.before.if-x-2.false c.if-x-3.true
 
-float-to-bits-i : tie.Need-float-to-bits-i
+float-to-bits-i : tie.Need-float_to_bits-i
 unfolding of_bits round
 float-to-bits-i c = no_nan _ (total c)
 
-sub-i : tie.Need-overflow-sub-i
+sub-i : tie.Need-overflow_sub-i
 unfolding of_bits round
 sub-i c = (at c).least
 
 series-requires : tie.Need-series-requires
 series-requires c κs = tt
 
-power-at-requires : tie.Need-power-at-requires
+power-at-requires : tie.Need-power_at-requires
 unfolding of_bits round
 power-at-requires c κs = (at c.before).most
 
-returns-4 : tie.Need-returns-4
+returns-4 : tie.Need-returns
 unfolding of_bits round
 returns-4 c =
     let e = c.before.before in
     rw (c.before.series.ensures, c.power_at.ensures, (at e).entry)
-    (between _ e.before.before.if1.false e.before.if2.false e.if3.false)
+    (between _ e.before.before.if-x.false e.before.if-x-2.false e.if-x-3.false)
 
 pub exp_spec : {M : Type 1} → statement M
 exp_spec =

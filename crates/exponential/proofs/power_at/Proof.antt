@@ -7,13 +7,13 @@ use Rattle.exponential.specs.Power.{power_bits}
 use Rattle.exponential.proofs.power_at.Statement.{statement}
 use Rattle.exponential.proofs.power_at.Tie as tie
 
-add-result : tie.Need-overflow-add-result
+add-result : tie.Need-overflow_add-result
 add-result c = search rules
 
-mul-result : tie.Need-overflow-mul-result
+mul-result : tie.Need-overflow_mul-result
 mul-result c = search rules
 
-float-from-bits-result : tie.Need-float-from-bits-result
+float-from-bits-result : tie.Need-float_from_bits-result
 unfolding is_nan
 float-from-bits-result c = rw (nan_bits_is binary64 _ ∙ ap is_nan (power_bits c.args.i c.requires)) tt
 

@@ -26,31 +26,31 @@ unfolding horner
 none zero r p q n e = e
 none (suc k) r p q n e = absurd (not-suc-le-zero n)
 
-abbrev invariant-loop : tie.invariant-loop
+abbrev invariant-loop : tie.invariant-loop-k
 invariant-loop r p₀ k₀ p k = (k ≤ 14) × (horner k r p ≡ horner 14 r one)
 
-abbrev decreases-loop : tie.decreases-loop
+abbrev decreases-loop : tie.decreases-loop-k
 decreases-loop r p₀ k₀ p k = k
 
-loop-holds : tie.Need-loop-init invariant-loop decreases-loop
+loop-holds : tie.Need-loop-k-init invariant-loop decreases-loop
 unfolding of_bits round
 loop-holds c = (omega arith, refl)
 
-int-to-float-p : tie.Need-int-to-float-p invariant-loop decreases-loop
-int-to-float-p c = exactly _ c.before.before.loop.invariant.0
+int-to-float-p : tie.Need-int_to_float-p invariant-loop decreases-loop
+int-to-float-p c = exactly _ c.before.before.loop-k.invariant.0
 
-sub-k : tie.Need-overflow-sub-k invariant-loop decreases-loop
+sub-k : tie.Need-overflow_sub-k invariant-loop decreases-loop
 sub-k c = omega arith
 
-loop-less : tie.Need-loop-smaller invariant-loop decreases-loop
+loop-less : tie.Need-loop-k-smaller invariant-loop decreases-loop
 loop-less c = omega arith
 
-loop_again : tie.Need-loop-preserved invariant-loop decreases-loop
+loop_again : tie.Need-loop-k-preserved invariant-loop decreases-loop
 unfolding of_bits round
-loop_again c = (omega arith, turn _ _ _ c.before.loop-test.true ∙ c.before.before.loop.invariant.1)
+loop_again c = (omega arith, turn _ _ _ c.before.loop-k-test.true ∙ c.before.before.loop-k.invariant.1)
 
 returns : tie.Need-returns invariant-loop decreases-loop
-returns c = none _ _ _ _ c.loop-test.false c.before.loop.invariant.1
+returns c = none _ _ _ _ c.loop-k-test.false c.before.loop-k.invariant.1
 
 pub series_spec : {M : Type 1} → statement M
 series_spec =

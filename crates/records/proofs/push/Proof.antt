@@ -14,63 +14,63 @@ use Rattle.records.proofs.push.Tie as tie
 use Rattle.records.proofs.push.Reads as reads
 use Rattle.records.proofs.push.Lts as lts
 
-abbrev invariant-loop : tie.invariant-loop
+abbrev invariant-loop : tie.invariant-loop-i
 invariant-loop list₀ n rec w at i₀ list i = (list ≡ paste list₀ at rec i) × (i ≤ w) × (length list ≡ length list₀)
 
-abbrev decreases-loop : tie.decreases-loop
+abbrev decreases-loop : tie.decreases-loop-i
 decreases-loop list₀ n rec w at i₀ list i = w - i
 
-mul_at : tie.Need-overflow-mul-at invariant-loop decreases-loop
-mul_at c = let r = room _ _ _ c.before.requires c.if1.true in omega arith
+mul_at : tie.Need-overflow_mul-at invariant-loop decreases-loop
+mul_at c = let r = room _ _ _ c.before.requires c.if-n-list.true in omega arith
 
-loop-holds : tie.Need-loop-init invariant-loop decreases-loop
+loop-holds : tie.Need-loop-i-init invariant-loop decreases-loop
 loop-holds c = let a = c.before.args in (paste-zero a.list.now (a.n * length a.rec.now) a.rec.now, zero-le, refl)
 
-add-list : tie.Need-overflow-add-list invariant-loop decreases-loop
-add-list c = let r = room _ _ _ (omega arith) c.before.before.before.if1.true in omega arith
+add-list : tie.Need-overflow_add-list invariant-loop decreases-loop
+add-list c = let r = room _ _ _ (omega arith) c.before.before.before.if-n-list.true in omega arith
 
-mul-list-2 : tie.Need-overflow-mul-list-2 invariant-loop decreases-loop
-mul-list-2 c = let r = room _ _ _ (omega arith) c.before.before.before.if1.true in omega arith
+mul-list-2 : tie.Need-offset_bounds-list-at invariant-loop decreases-loop
+mul-list-2 c = let r = room _ _ _ (omega arith) c.before.before.before.if-n-list.true in omega arith
 
-slice-write-list : tie.Need-slice-write-list invariant-loop decreases-loop
-slice-write-list c = let r = room _ _ _ (omega arith) c.before.before.before.if1.true in omega arith
+slice-write-list : tie.Need-bounds-list-at invariant-loop decreases-loop
+slice-write-list c = let r = room _ _ _ (omega arith) c.before.before.before.if-n-list.true in omega arith
 
-add-i : tie.Need-overflow-add-i invariant-loop decreases-loop
+add-i : tie.Need-overflow_add-i invariant-loop decreases-loop
 add-i c = omega arith
 
-loop-less : tie.Need-loop-smaller invariant-loop decreases-loop
+loop-less : tie.Need-loop-i-smaller invariant-loop decreases-loop
 loop-less c = omega arith
 
-loop_again : tie.Need-loop-preserved invariant-loop decreases-loop
+loop_again : tie.Need-loop-i-preserved invariant-loop decreases-loop
 loop_again c =
     let at-loop = c.before.before in
     let a = at-loop.before.before.args in
-    let r = room _ _ _ (omega arith) at-loop.before.if1.true in
-    let h : a.n * length a.rec.now + at-loop.loop.i < length a.list.now = omega arith in (
-      rw (at-loop.loop.invariant.0, add-one) (paste-suc a.list.now (a.n * length a.rec.now) a.rec.now _ nan h c.before.loop-test.true),
+    let r = room _ _ _ (omega arith) at-loop.before.if-n-list.true in
+    let h : a.n * length a.rec.now + at-loop.loop-i.i < length a.list.now = omega arith in (
+      rw (at-loop.loop-i.invariant.0, add-one) (paste-suc a.list.now (a.n * length a.rec.now) a.rec.now _ nan h c.before.loop-i-test.true),
       omega arith,
       simp length-set (omega arith),
     )
 
-add-t18 : tie.Need-overflow-add-t18 invariant-loop decreases-loop
+add-t18 : tie.Need-overflow_add-result invariant-loop decreases-loop
 add-t18 c =
     let a = c.before.before.before.args in
     let r = room (length a.rec.now) a.n (length a.list.now) (omega arith) (omega arith) in
     let m : a.n * 1 ≤ a.n * length a.rec.now = mul-le-mul_left a.n (omega arith) in
     omega arith
 
-same_length : tie.Need-same-length invariant-loop decreases-loop
-same_length c = c.before.loop.invariant.2
+same_length : tie.Need-shape_of-list invariant-loop decreases-loop
+same_length c = c.before.loop-i.invariant.2
 
-returns : tie.Need-returns invariant-loop decreases-loop
+returns : tie.Need-returns-after-loop-i invariant-loop decreases-loop
 returns c =
     let a = c.before.before.before.args in
-    let e : c.before.loop.i ≡ length a.rec.now = omega arith in
+    let e : c.before.loop-i.i ≡ length a.rec.now = omega arith in
     pushes_done (length a.rec.now) a.n a.list.now a.rec.now _ (omega arith) refl (omega arith)
-    (c.before.loop.invariant.0 ∙ ap (paste a.list.now (a.n * length a.rec.now) a.rec.now) e)
+    (c.before.loop-i.invariant.0 ∙ ap (paste a.list.now (a.n * length a.rec.now) a.rec.now) e)
 
-returns-2 : tie.Need-returns-2 invariant-loop decreases-loop
-returns-2 c = pushes_full _ _ _ _ c.if1.false
+returns-2 : tie.Need-returns-else-n-list invariant-loop decreases-loop
+returns-2 c = pushes_full _ _ _ _ c.if-n-list.false
 
 pub push_spec : {M : Type 1} → statement M
 push_spec =
