@@ -13,15 +13,15 @@ use Rattle.root.proofs.cut.Reads as reads
 use Rattle.root.proofs.cut.Lts as lts
 
 held : (c : lts.Start reads.Pre reads.Post) → T (fits binary64 c.args.s)
-held c = subst T (sym c.well-formed.0.1) tt
+held c = subst T (sym c.well_formed.0.1) tt
 
-float-to-bits-result : tie.Need-float-to-bits-result
+float-to-bits-result : tie.Need-float_to_bits-result
 float-to-bits-result c = search rules
 
-mul-result : tie.Need-overflow-mul-result
+mul-result : tie.Need-overflow_mul-result
 mul-result c = omega (arith, to_bits-lt binary64 c.args.s (held c))
 
-float-from-bits-result : tie.Need-float-from-bits-result
+float-from-bits-result : tie.Need-float_from_bits-result
 float-from-bits-result c = cut_no_nan _ (rw (nan_bits_is, of_bits-to_bits binary64 _ (held c)) c.requires)
 
 returns : tie.Need-returns

@@ -8,19 +8,19 @@ use borrow.Author.Rules.{rules}
 use Rattle.root.proofs.estimate.Statement.{statement}
 use Rattle.root.proofs.estimate.Tie as tie
 
-float-from-bits-y0 : tie.Need-float-from-bits-y0
+float-from-bits-y0 : tie.Need-float_from_bits-y0
 float-from-bits-y0 c = no_nan _ (omega arith)
 
-returns : tie.Need-returns
+returns : tie.Need-returns-then-s
 unfolding estimate_of of_bits round
-returns c = rw c.if1.true
+returns c = rw c.if-s.true
 
-cut-requires : tie.Need-cut-requires
-cut-requires c κs = not_nan _ c.if1.false
+cut-requires : tie.Need-cut-sh-requires
+cut-requires c κs = not_nan _ c.if-s.false
 
-returns-2 : tie.Need-returns-2
+returns-2 : tie.Need-returns
 unfolding estimate_of bettered of_bits round
-returns-2 c = rw (c.before.if1.false, c.cut.ensures)
+returns-2 c = rw (c.before.if-s.false, c.cut-sh.ensures)
 
 pub estimate_spec : {M : Type 1} → statement M
 estimate_spec =

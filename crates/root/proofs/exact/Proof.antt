@@ -17,33 +17,33 @@ use Rattle.root.proofs.exact.Lts as lts
 use Rattle.root.proofs.positive.Reads as positive-reads
 
 held : (c : lts.Start (positive-reads.Asked, positive-reads.Learnt) reads.Pre reads.Post) → T (fits binary64 c.args.x)
-held c = subst T (sym c.well-formed.0.1) tt
+held c = subst T (sym c.well_formed.0.1) tt
 
-returns : tie.Need-returns
-returns c = at_nan _ (differs_from_itself _ (subst T (sym c.if1.true) tt))
+returns : tie.Need-returns-then-x
+returns c = at_nan _ (differs_from_itself _ (subst T (sym c.if-x.true) tt))
 
-float-to-bits-b : tie.Need-float-to-bits-b
-float-to-bits-b c = not_nan _ c.if1.false
+float-to-bits-b : tie.Need-float_to_bits-b
+float-to-bits-b c = not_nan _ c.if-x.false
 
-returns-2 : tie.Need-returns-2
-returns-2 c = at_zero _ (held c.before.before) c.if2.true
+returns-2 : tie.Need-returns-then-b-eq0
+returns-2 c = at_zero _ (held c.before.before) c.if-b-eq0.true
 
-float-from-bits-result : tie.Need-float-from-bits-result
+float-from-bits-result : tie.Need-float_from_bits-result
 float-from-bits-result c = no_nan _ (omega (arith, c.positive.ensures.finite))
 
-returns-3 : tie.Need-returns-3
+returns-3 : tie.Need-returns-then-b-lt9218868437227405312
 returns-3 c = c.positive.ensures.is ∙ ap root_of (of_bits-to_bits binary64 _ (held c.before.before.before.before))
 
-returns-4 : tie.Need-returns-4
-returns-4 c = at_infinity _ (held c.before.before.before.before) c.if4.true
+returns-4 : tie.Need-returns-then-b-eq9218868437227405312
+returns-4 c = at_infinity _ (held c.before.before.before.before) c.if-b-eq9218868437227405312.true
 
-returns-5 : tie.Need-returns-5
-returns-5 c = at_minus_zero _ (held c.before.before.before.before.before) c.if5.true
+returns-5 : tie.Need-returns-then-b
+returns-5 c = at_minus_zero _ (held c.before.before.before.before.before) c.if-b.true
 
-returns-6 : tie.Need-returns-6
+returns-6 : tie.Need-returns
 returns-6 c =
-    let a : tie.Else1 = search in
-    at_minus _ (held a.before) (not_nan _ a.if1.left) (omega arith) c.before.if4.false c.if5.false
+    let a : tie.Else-x = search in
+    at_minus _ (held a.before) (not_nan _ a.if-x.false) (omega arith) c.before.if-b-eq9218868437227405312.false c.if-b.false
 
 pub exact_spec : {M : Type 1} → statement M
 exact_spec =

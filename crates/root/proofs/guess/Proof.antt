@@ -17,62 +17,62 @@ use Rattle.root.proofs.guess.Tie as tie
 none : (x : Float) → Guess x 0
 none x = record { finite = omega arith; is = λ h. absurd (h refl) }
 
-returns : tie.Need-returns
+returns : tie.Need-returns-then-x
 unfolding guess_of
-returns c = (none _, rw c.if1.true)
+returns c = (none _, rw c.if-x.true)
 
-returns-2 : tie.Need-returns-2
+returns-2 : tie.Need-returns-then-b-lt4503599627370496
 unfolding guess_of
-returns-2 c = (none _, rw (c.before.if1.false, lt-ltb _ _ c.if2.true))
+returns-2 c = (none _, rw (c.before.if-x.false, lt-ltb _ _ c.if-b-lt4503599627370496.true))
 
-returns-3 : tie.Need-returns-3
+returns-3 : tie.Need-returns-then-b-ge9218868437227405312
 unfolding guess_of
-returns-3 c = (none _, rw (c.before.before.if1.false, le-ltb _ _ c.before.if2.false, le-leb _ _ c.if3.true))
+returns-3 c = (none _, rw (c.before.before.if-x.false, le-ltb _ _ c.before.if-b-lt4503599627370496.false, le-leb _ _ c.if-b-ge9218868437227405312.true))
 
-returns-4 : tie.Need-returns-4
+returns-4 : tie.Need-returns-then-w
 unfolding guess_of
 returns-4 c =
-    let n : tie.Else3 = search in
-    (none _, rw (← c.before.estimate.ensures, n.before.before.if1.left, le-ltb _ _ n.before.if2.left, lt-leb _ _ n.if3.left, c.if4.true))
+    let n : tie.Else-b-ge9218868437227405312 = search in
+    (none _, rw (← c.before.estimate-w.ensures, n.before.before.if-x.false, le-ltb _ _ n.before.if-b-lt4503599627370496.false, lt-leb _ _ n.if-b-ge9218868437227405312.false, c.if-w.true))
 
-returns-6 : tie.Need-returns-6
+returns-6 : tie.Need-returns
 unfolding guess_of
 returns-6 c =
-    let e : tie.Else4 = search in
-    let n : tie.Else3 = search in (
+    let e : tie.Else-w = search in
+    let n : tie.Else-b-ge9218868437227405312 = search in (
       none _,
       rw (
-        ← e.before.estimate.ensures,
-        n.before.before.if1.left,
-        le-ltb _ _ n.before.if2.left,
-        lt-leb _ _ n.if3.left,
-        e.if4.left,
+        ← e.before.estimate-w.ensures,
+        n.before.before.if-x.false,
+        le-ltb _ _ n.before.if-b-lt4503599627370496.false,
+        lt-leb _ _ n.if-b-ge9218868437227405312.false,
+        e.if-w.false,
         ← c.before.sure.ensures.1,
-        c.if5.false,
+        c.if-sure.false,
       ),
     )
 
-float-to-bits-b : tie.Need-float-to-bits-b
-float-to-bits-b c = not_nan _ c.if1.false
+float-to-bits-b : tie.Need-float_to_bits-b
+float-to-bits-b c = not_nan _ c.if-x.false
 
-float-to-bits-r : tie.Need-float-to-bits-r
-float-to-bits-r c = not_nan _ c.if4.false
+float-to-bits-r : tie.Need-float_to_bits-r
+float-to-bits-r c = not_nan _ c.if-w.false
 
-returns-5 : tie.Need-returns-5
+returns-5 : tie.Need-returns-then-sure
 unfolding guess_of
 returns-5 c =
-    let e : tie.Else4 = search in
-    let a : tie.Else3 = search in
-    let s = c.before.sure.ensures.0 c.if5.true in (
-      record { finite = s.finite; is = λ h. s.is ∙ ap root_of (of_bits-to_bits binary64 _ (subst T (sym a.before.before.before.good.0.1) tt)) },
+    let e : tie.Else-w = search in
+    let a : tie.Else-b-ge9218868437227405312 = search in
+    let s = c.before.sure.ensures.0 c.if-sure.true in (
+      record { finite = s.finite; is = λ h. s.is ∙ ap root_of (of_bits-to_bits binary64 _ (subst T (sym a.before.before.before.well_formed.0.1) tt)) },
       rw (
-        ← e.before.estimate.ensures,
-        a.before.before.if1.left,
-        le-ltb _ _ a.before.if2.left,
-        lt-leb _ _ a.if3.left,
-        e.if4.left,
+        ← e.before.estimate-w.ensures,
+        a.before.before.if-x.false,
+        le-ltb _ _ a.before.if-b-lt4503599627370496.false,
+        lt-leb _ _ a.if-b-ge9218868437227405312.false,
+        e.if-w.false,
         ← c.before.sure.ensures.1,
-        c.if5.true,
+        c.if-sure.true,
       ),
     )
 

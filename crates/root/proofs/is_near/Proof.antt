@@ -15,39 +15,39 @@ use Rattle.root.proofs.is_near.Lts as lts
 at : (c : lts.Start reads.Pre reads.Post) → Parts c.args.r
 at c = parts c.args.r c.requires.1.1
 
-mul-k : tie.Need-overflow-mul-k
+mul-k : tie.Need-overflow_mul-k
 mul-k c = omega (arith, at c)
 
-returns : tie.Need-returns
+returns : tie.Need-returns-then-n-k
 unfolding is_near
-returns c = (λ e. absurd (true≢false (sym e)), rw (lt-ltb _ _ c.if1.true))
+returns c = (λ e. absurd (true≢false (sym e)), rw (lt-ltb _ _ c.if-n-k.true))
 
-returns-2 : tie.Need-returns-2
+returns-2 : tie.Need-returns-then-d-a
 unfolding is_near
-returns-2 c = (λ e. absurd (true≢false (sym e)), rw (le-ltb _ _ c.before.if1.false, le-leb _ _ c.if2.true))
+returns-2 c = (λ e. absurd (true≢false (sym e)), rw (le-ltb _ _ c.before.if-n-k.false, le-leb _ _ c.if-d-a.true))
 
-mul-p : tie.Need-overflow-mul-p
+mul-p : tie.Need-overflow_mul-p
 mul-p c = omega (arith, at c.before.before)
 
-mul-p-2 : tie.Need-overflow-mul-p-2
+mul-p-2 : tie.Need-overflow_mul-p-2
 mul-p-2 c = omega (arith, at c.before.before)
 
-add-p : tie.Need-overflow-add-p
+add-p : tie.Need-overflow_add-p
 add-p c = omega (arith, at c.before.before)
 
-add-p-2 : tie.Need-overflow-add-p-2
+add-p-2 : tie.Need-overflow_add-p-2
 add-p-2 c = omega (arith, at c.before.before)
 
-returns-3 : tie.Need-returns-3
+returns-3 : tie.Need-returns-then-p-h
 unfolding is_near
-returns-3 c = (λ e. absurd (true≢false (sym e)), rw (le-ltb _ _ c.before.before.if1.false, lt-leb _ _ c.before.if2.false, lt-ltb _ _ c.if3.true))
+returns-3 c = (λ e. absurd (true≢false (sym e)), rw (le-ltb _ _ c.before.before.if-n-k.false, lt-leb _ _ c.before.if-d-a.false, lt-ltb _ _ c.if-p-h.true))
 
-returns-4 : tie.Need-returns-4
+returns-4 : tie.Need-returns
 unfolding is_near
 returns-4 c =
     let a : tie.Start = search in (
-      λ e. tested a.args.m a.args.r _ a.pre.1.0 a.pre.1.1 (omega arith) c.if3.false (ltb-true _ _ e),
-      rw (le-ltb _ _ c.before.before.if1.false, lt-leb _ _ c.before.if2.false, le-ltb _ _ c.if3.false),
+      λ e. tested a.args.m a.args.r _ a.requires.1.0 a.requires.1.1 (omega arith) c.if-p-h.false (ltb-true _ _ e),
+      rw (le-ltb _ _ c.before.before.if-n-k.false, lt-leb _ _ c.before.if-d-a.false, le-ltb _ _ c.if-p-h.false),
     )
 
 pub is_near_spec : {M : Type 1} → statement M

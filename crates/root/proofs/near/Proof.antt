@@ -6,11 +6,11 @@ use borrow.Author.Rules.{rules}
 use Rattle.root.proofs.near.Statement.{statement}
 use Rattle.root.proofs.near.Tie as tie
 
-float-from-bits-estimate : tie.Need-float-from-bits-estimate
+float-from-bits-estimate : tie.Need-float_from_bits-p
 float-from-bits-estimate c = no_nan _ (omega arith)
 
-float-to-bits-b : tie.Need-float-to-bits-b
-float-to-bits-b c = not_nan _ c.if1.false
+float-to-bits-b : tie.Need-float_to_bits-b
+float-to-bits-b c = not_nan _ c.if-w.false
 
 pub near_spec : {M : Type 1} → statement M
 near_spec =

@@ -8,16 +8,16 @@ use Rattle.root.specs.Guess.{is_sure}
 use Rattle.root.proofs.sure.Statement.{statement}
 use Rattle.root.proofs.sure.Tie as tie
 
-returns : tie.Need-returns
+returns : tie.Need-returns-then-w-v
 unfolding is_sure
-returns c = (λ e. absurd (true≢false (sym e)), rw (ne_eqb _ _ c.if1.true))
+returns c = (λ e. absurd (true≢false (sym e)), rw (ne_eqb _ _ c.if-w-v.true))
 
-returns-2 : tie.Need-returns-2
+returns-2 : tie.Need-returns
 unfolding is_sure
 returns-2 c =
-    let a : tie.Else1 = search in (
-      λ e. tested_bits _ _ _ a.before.pre.0 a.before.pre.1 c.before.radicand.ensures a.if1.left (c.is_near_lem.ensures.0 e),
-      rw (eq-eqb _ _ a.if1.left, ← c.before.radicand.ensures.is) c.is_near_lem.ensures.1,
+    let a : tie.Else-w-v = search in (
+      λ e. tested_bits _ _ _ a.before.requires.0 a.before.requires.1 c.before.radicand.ensures a.if-w-v.false (c.is_near.ensures.0 e),
+      rw (eq-eqb _ _ a.if-w-v.false, ← c.before.radicand.ensures.is) c.is_near.ensures.1,
     )
 
 pub sure_spec : {M : Type 1} → statement M
