@@ -45,53 +45,53 @@ exactly : (n : ℕ) → n ≤ 420 → T (in_float binary64 (pos n))
 unfolding in_float
 exactly n h = le→leb n 9007199254740992 (omega arith)
 
-abbrev invariant-loop : tie.invariant-loop
+abbrev invariant-loop : tie.invariant-loop-k
 invariant-loop s o c₀ k₀ c k = (k ≤ 10) × (series (divisor o) k s c ≡ series (divisor o) 10 s one)
 
-abbrev decreases-loop : tie.decreases-loop
+abbrev decreases-loop : tie.decreases-loop-k
 decreases-loop s o c₀ k₀ c k = k
 
-at : (c : lts.In-loop reads.Pre reads.Post invariant-loop decreases-loop)
-    → (2 * c.before.loop.k - 1 + c.before.before.args.o) * (2 * c.before.loop.k + c.before.before.args.o) ≤ 420
-at c = small _ _ c.before.before.requires c.before.loop.invariant.0
+at : (c : lts.In-loop-k reads.Pre reads.Post invariant-loop decreases-loop)
+    → (2 * c.before.loop-k.k - 1 + c.before.before.args.o) * (2 * c.before.loop-k.k + c.before.before.args.o) ≤ 420
+at c = small _ _ c.before.before.requires c.before.loop-k.invariant.0
 
-loop-holds : tie.Need-loop-init invariant-loop decreases-loop
+loop-holds : tie.Need-loop-k-init invariant-loop decreases-loop
 unfolding of_bits round
 loop-holds c = (omega arith, refl)
 
-mul-c : tie.Need-overflow-mul-c invariant-loop decreases-loop
+mul-c : tie.Need-overflow_mul-c invariant-loop decreases-loop
 mul-c c = omega arith
 
-sub-c : tie.Need-overflow-sub-c invariant-loop decreases-loop
+sub-c : tie.Need-overflow_sub-c invariant-loop decreases-loop
 sub-c c = omega arith
 
-add-c : tie.Need-overflow-add-c invariant-loop decreases-loop
+add-c : tie.Need-overflow_add-c invariant-loop decreases-loop
 add-c c = omega arith
 
-mul-c-2 : tie.Need-overflow-mul-c-2 invariant-loop decreases-loop
+mul-c-2 : tie.Need-overflow_mul-c-in-loop-k invariant-loop decreases-loop
 mul-c-2 c = omega arith
 
-add-c-2 : tie.Need-overflow-add-c-2 invariant-loop decreases-loop
+add-c-2 : tie.Need-overflow_add-c-in-loop-k invariant-loop decreases-loop
 add-c-2 c = omega arith
 
-mul-c-3 : tie.Need-overflow-mul-c-3 invariant-loop decreases-loop
+mul-c-3 : tie.Need-overflow_mul-c-in-loop-k-2 invariant-loop decreases-loop
 mul-c-3 c = omega (arith, at c)
 
-int-to-float-c : tie.Need-int-to-float-c invariant-loop decreases-loop
+int-to-float-c : tie.Need-int_to_float-c invariant-loop decreases-loop
 int-to-float-c c = exactly _ (at c.before)
 
-sub-k : tie.Need-overflow-sub-k invariant-loop decreases-loop
+sub-k : tie.Need-overflow_sub-k invariant-loop decreases-loop
 sub-k c = omega arith
 
-loop-less : tie.Need-loop-smaller invariant-loop decreases-loop
+loop-less : tie.Need-loop-k-smaller invariant-loop decreases-loop
 loop-less c = omega arith
 
-loop_again : tie.Need-loop-preserved invariant-loop decreases-loop
+loop_again : tie.Need-loop-k-preserved invariant-loop decreases-loop
 unfolding of_bits round
-loop_again c = (omega arith, turn _ _ _ _ c.before.before.before.requires c.before.loop-test.true ∙ c.before.before.loop.invariant.1)
+loop_again c = (omega arith, turn _ _ _ _ c.before.before.before.requires c.before.loop-k-test.true ∙ c.before.before.loop-k.invariant.1)
 
 returns : tie.Need-returns invariant-loop decreases-loop
-returns c = none _ _ _ _ _ c.loop-test.false c.before.loop.invariant.1
+returns c = none _ _ _ _ _ c.loop-k-test.false c.before.loop-k.invariant.1
 
 pub series_at_spec : {M : Type 1} → statement M
 series_at_spec =

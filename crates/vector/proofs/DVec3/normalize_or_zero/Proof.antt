@@ -4,13 +4,13 @@ use Rattle.vector.specs.Vec.{vnormalize_or_zero}
 use Rattle.vector.proofs.DVec3.normalize_or_zero.Statement.{statement}
 use Rattle.vector.proofs.DVec3.normalize_or_zero.Tie as tie
 
-returns : tie.Need-returns
+returns : tie.Need-returns-then-is_finite-rcp
 unfolding vnormalize_or_zero of_bits round
-returns c = simp (← c.before.before.before.length.ensures, ← c.before.before.is_finite.ensures, ← c.scale.ensures, c.before.if1.true)
+returns c = simp (← c.before.before.before.length-rcp.ensures, ← c.before.before.is_finite.ensures, ← c.scale.ensures, c.before.if-is_finite-rcp.true)
 
-returns-2 : tie.Need-returns-2
+returns-2 : tie.Need-returns
 unfolding vnormalize_or_zero of_bits round
-returns-2 c = simp (← c.before.before.length.ensures, ← c.before.is_finite.ensures, c.if1.false)
+returns-2 c = simp (← c.before.before.length-rcp.ensures, ← c.before.is_finite.ensures, c.if-is_finite-rcp.false)
 
 pub normalize_or_zero_spec : {M : Type 1} → statement M
 normalize_or_zero_spec = tie.close (tie.spec (λ c κs. tt) (λ c κs. tt) (λ c κs. tt) returns returns-2)
