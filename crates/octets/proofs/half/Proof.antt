@@ -8,7 +8,7 @@ returns : tie.Need-returns
 returns c =
     let at_pair : tie.After-pair = search in
     let start : tie.Start = search in
-    cc (c.quad.ensures, at_pair.pair.ensures, c.before.pair2.ensures, half_of start.args.s.now start.args.o)
+    cc (c.quad.ensures, at_pair.pair.ensures, c.before.pair-2.ensures, half_of start.args.s.now start.args.o)
 
 pub half_spec : {M : Type 1} → statement M
 half_spec =

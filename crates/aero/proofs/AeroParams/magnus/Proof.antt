@@ -4,30 +4,30 @@ use Rattle.aero.specs.Aero.{magnus_of}
 use Rattle.aero.proofs.AeroParams.magnus.Statement.{statement}
 use Rattle.aero.proofs.AeroParams.magnus.Tie as tie
 
-returns : tie.Need-returns
+returns : tie.Need-returns-then-lift_mag
 unfolding magnus_of of_bits round
 returns c =
-    let at_length : tie.After-length = search in
-    let at-if1 : tie.Then1 = search in
+    let at_length : tie.After-length-lift_mag = search in
+    let at-if1 : tie.Then-abs = search in
     simp (
       ← at-if1.before.abs.ensures,
-      ← at_length.before.cross.ensures,
-      ← at_length.length.ensures,
+      ← at_length.before.cross-lift_dir.ensures,
+      ← at_length.length-lift_mag.ensures,
       ← c.before.div.ensures,
       ← c.scale.ensures,
-      c.before.before.if2.true,
-      at-if1.if1.taken,
+      c.before.before.if-lift_mag.true,
+      at-if1.if-abs.true,
     )
 
-returns-2 : tie.Need-returns-2
+returns-2 : tie.Need-returns-then-abs
 unfolding magnus_of of_bits round
 returns-2 c =
-    let at-if1 : tie.Then1 = search in
-    simp (← at-if1.before.abs.ensures, ← c.before.before.cross.ensures, ← c.before.length.ensures, c.if2.false, at-if1.if1.taken)
+    let at-if1 : tie.Then-abs = search in
+    simp (← at-if1.before.abs.ensures, ← c.before.before.cross-lift_dir.ensures, ← c.before.length-lift_mag.ensures, c.if-lift_mag.false, at-if1.if-abs.true)
 
-returns-3 : tie.Need-returns-3
+returns-3 : tie.Need-returns
 unfolding magnus_of of_bits round
-returns-3 c = simp (← c.before.abs.ensures, c.if1.false)
+returns-3 c = simp (← c.before.abs.ensures, c.if-abs.false)
 
 pub magnus_spec : {M : Type 1} → statement M
 magnus_spec =
