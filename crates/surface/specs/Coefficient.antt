@@ -28,6 +28,7 @@ below_20 m e h = let l = le→ false m e false 5 (pos 2) (rw twenty at h) in ome
 
 taken : {A : Type 0} (P : A → Type 0) (b : Bool) (x y : A) → T b → P x → P (cond b x y)
 taken P true x y t p = p
+taken P false x y t p = elim t [ ]
 
 not_taken : {A : Type 0} (b : Bool) (x y : A) → (T b → ⊥) → cond b x y ≡ y
 not_taken true x y n = absurd (n tt)

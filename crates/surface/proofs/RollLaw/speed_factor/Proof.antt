@@ -5,34 +5,34 @@ use Rattle.surface.specs.Surface.{speed_factor}
 use Rattle.surface.proofs.RollLaw.speed_factor.Statement.{statement}
 use Rattle.surface.proofs.RollLaw.speed_factor.Tie as tie
 
-enum_told : tie.Need-enum-told
+enum_told : tie.Need-enum_told-1
 enum_told c = search rules
 
-enum-known-self : tie.Need-enum-known-self
+enum-known-self : tie.Need-enum_known-self
 enum-known-self c = search rules
 
-enum-known-self-2 : tie.Need-enum-known-self-2
+enum-known-self-2 : tie.Need-enum_known-self-in-Exponential-1
 enum-known-self-2 c = search rules
 
-returns : tie.Need-returns
+returns : tie.Need-returns-in-Constant
 unfolding speed_factor of_bits round
-returns c = simp c.enum_told.given.1
+returns c = simp c.in-Constant.is
 
-returns-2 : tie.Need-returns-2
+returns-2 : tie.Need-returns-then-is_finite
 unfolding speed_factor of_bits round
-returns-2 c = simp (c.before.before.before.self.given.1, ← c.before.is_finite.ensures, c.if1.true)
+returns-2 c = simp (c.before.before.in-Quadratic.is, ← c.before.is_finite.ensures, c.if-is_finite.true)
 
-returns-3 : tie.Need-returns-3
+returns-3 : tie.Need-returns-else-is_finite
 unfolding speed_factor of_bits round
-returns-3 c = simp (c.before.before.before.self.given.1, ← c.before.is_finite.ensures, c.if1.false)
+returns-3 c = simp (c.before.before.in-Quadratic.is, ← c.before.is_finite.ensures, c.if-is_finite.false)
 
-returns-4 : tie.Need-returns-4
+returns-4 : tie.Need-returns-then-is_finite-2
 unfolding speed_factor of_bits round
-returns-4 c = simp (c.before.before.before.before.self2.given.1, ← c.exp.ensures, ← c.before.before.is-finite2.ensures, c.before.if2.true)
+returns-4 c = simp (c.before.before.before.in-Exponential.is, ← c.exp.ensures, ← c.before.before.is_finite-in-Exponential.ensures, c.before.if-is_finite-2.true)
 
-returns-5 : tie.Need-returns-5
+returns-5 : tie.Need-returns-else-is_finite-2
 unfolding speed_factor of_bits round
-returns-5 c = simp (c.before.before.before.self2.given.1, ← c.before.is-finite2.ensures, c.if2.false)
+returns-5 c = simp (c.before.before.in-Exponential.is, ← c.before.is_finite-in-Exponential.ensures, c.if-is_finite-2.false)
 
 pub speed_factor_spec : {M : Type 1} → statement M
 speed_factor_spec =

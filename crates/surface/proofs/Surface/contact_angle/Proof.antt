@@ -14,22 +14,22 @@ ref_angle_bits : of_bits binary64 0x3fe8_cc32_0139_06f2 ≡ penner_ref_angle
 unfolding of_bits round mul div penner_ref_angle
 ref_angle_bits = refl
 
-returns : tie.Need-returns
+returns : tie.Need-returns-then-v_t
 unfolding contact_angle of_bits round
-returns c = simp c.if1.true
+returns c = simp c.if-v_t.true
 
-returns-2 : tie.Need-returns-2
+returns-2 : tie.Need-returns
 unfolding contact_angle tilted_angle of_bits round
 returns-2 c =
     let at-arctangent = c.before.before.before in
     simp (
       ← theta_c_bits,
       ← ref_angle_bits,
-      c.min2.ensures,
-      c.before.before.min.ensures,
-      at-arctangent.arctangent.ensures,
-      at-arctangent.before.hypot.ensures,
-      at-arctangent.before.before.if1.false,
+      c.min.ensures,
+      c.before.before.min-fade.ensures,
+      at-arctangent.arctangent-incidence.ensures,
+      at-arctangent.before.hypot-speed.ensures,
+      at-arctangent.before.before.if-v_t.false,
     )
 
 pub contact_angle_spec : {M : Type 1} → statement M
