@@ -10,7 +10,7 @@ unfolding locked_of of_bits round
 returns c =
     let at-sub : tie.After-sub = search in
     simp (
-      ← at-sub.before.before.slip.ensures,
+      ← at-sub.before.before.slip-u.ensures,
       ← at-sub.before.scale.ensures,
       ← at-sub.sub.ensures,
       ← c.before.before.cross.ensures,

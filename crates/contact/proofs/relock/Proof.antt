@@ -10,7 +10,7 @@ returns c =
     let at-cross : tie.After-cross = search in
     simp (
       ← at-cross.before.before.normalize.ensures,
-      ← at-cross.before.dot.ensures,
+      ← at-cross.before.dot-w_n.ensures,
       ← at-cross.cross.ensures,
       ← c.before.before.div.ensures,
       ← c.before.scale.ensures,

@@ -3,10 +3,10 @@ use mathlib.Core.Path.{sym}
 use Rattle.contact.proofs.unit.Statement.{statement}
 use Rattle.contact.proofs.unit.Tie as tie
 
-returns : tie.Need-returns
-returns c = sym (c.before.is-level.ensures c.if1.true)
+returns : tie.Need-returns-then-is_level
+returns c = sym (c.before.is_level.ensures c.if-is_level.true)
 
-returns-2 : tie.Need-returns-2
+returns-2 : tie.Need-returns
 returns-2 c = c.normalize.ensures
 
 pub unit_spec : {M : Type 1} → statement M

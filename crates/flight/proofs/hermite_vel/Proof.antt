@@ -8,13 +8,13 @@ use Rattle.flight.proofs.hermite_vel.Tie as tie
 returns : tie.Need-returns
 unfolding hermite_vel of_bits round
 returns c =
-    let at-scale2 : tie.After-scale2 = search in
+    let at-scale2 : tie.After-scale-2 = search in
     simp (
       ← at-scale2.before.scale.ensures,
-      ← at-scale2.scale2.ensures,
+      ← at-scale2.scale-2.ensures,
       ← c.before.before.add.ensures,
-      ← c.before.scale3.ensures,
-      ← c.add2.ensures,
+      ← c.before.scale-3.ensures,
+      ← c.add-2.ensures,
     )
 
 pub hermite_vel_spec : {M : Type 1} → statement M

@@ -8,17 +8,17 @@ use Rattle.flight.proofs.parabola.Tie as tie
 returns : tie.Need-returns
 unfolding parabola_of of_bits round neg
 returns c =
-    let at-scale4 : tie.After-scale4 = search in
+    let at-scale4 : tie.After-scale-4 = search in
     let at-add : tie.After-add = search in
     simp (
       ← at-add.before.scale.ensures,
       ← at-add.add.ensures,
-      ← at-scale4.before.before.scale2.ensures,
-      ← at-scale4.before.scale3.ensures,
-      ← at-scale4.scale4.ensures,
-      ← c.before.before.add2.ensures,
-      ← c.before.scale5.ensures,
-      ← c.add3.ensures,
+      ← at-scale4.before.before.scale-2.ensures,
+      ← at-scale4.before.scale-3.ensures,
+      ← at-scale4.scale-4.ensures,
+      ← c.before.before.add-2.ensures,
+      ← c.before.scale-5.ensures,
+      ← c.add-3.ensures,
     )
 
 pub parabola_spec : {M : Type 1} → statement M

@@ -8,24 +8,24 @@ returns : tie.Need-returns
 unfolding struck of_bits round
 returns c =
     let at-div : tie.After-div = search in
-    let at-add2 : tie.After-add2 = search in
-    let at-add : tie.After-add = search in
-    let at-scale2 : tie.After-scale2 = search in
+    let at-add2 : tie.After-add = search in
+    let at-add : tie.After-add-slip = search in
+    let at-scale2 : tie.After-scale = search in
     simp (
-      c.pivot-friction.ensures,
-      c.before.before.add4.ensures,
+      c.pivot_friction-spin.ensures,
+      c.before.before.add-turned.ensures,
       at-div.div.ensures,
-      at-div.before.cross2.ensures,
-      at-div.before.before.add3.ensures,
-      at-add2.add2.ensures,
-      at-add2.before.scale3.ensures,
-      at-add2.before.before.friction-impulse.ensures,
-      at-add.add.ensures,
+      at-div.before.cross-2.ensures,
+      at-div.before.before.add-vel.ensures,
+      at-add2.add.ensures,
+      at-add2.before.scale-2.ensures,
+      at-add2.before.before.friction_impulse-j_t_vec.ensures,
+      at-add.add-slip.ensures,
       at-add.before.cross.ensures,
       at-add.before.before.sub.ensures,
-      at-scale2.scale2.ensures,
-      at-scale2.before.scale.ensures,
-      at-scale2.before.before.coefficient-at.ensures,
+      at-scale2.scale.ensures,
+      at-scale2.before.scale-r.ensures,
+      at-scale2.before.before.coefficient_at-e.ensures,
     )
 
 pub strike_spec : {M : Type 1} → statement M

@@ -3,53 +3,53 @@ use Rattle.shot.specs.Tests.{input_test}
 use Rattle.shot.proofs.input_test.Statement.{statement}
 use Rattle.shot.proofs.input_test.Tie as tie
 
-returns : tie.Need-returns
+returns : tie.Need-returns-then-not-physics_ok
 unfolding input_test
-returns c = rw (← c.before.physics-ok.ensures, c.if1.true)
+returns c = rw (← c.before.physics_ok.ensures, c.if-not-physics_ok.true)
 
-returns-2 : tie.Need-returns-2
+returns-2 : tie.Need-returns-then-not-ball_ok
 unfolding input_test
-returns-2 c = let p = c.before.before in rw (← p.before.physics-ok.ensures, p.if1.false, ← c.before.ball-ok.ensures, c.if2.true)
+returns-2 c = let p = c.before.before in rw (← p.before.physics_ok.ensures, p.if-not-physics_ok.false, ← c.before.ball_ok.ensures, c.if-not-ball_ok.true)
 
-returns-3 : tie.Need-returns-3
+returns-3 : tie.Need-returns-then-not-density_ok
 unfolding input_test
 returns-3 c =
     let b = c.before.before in
     let p = b.before.before in
-    rw (← p.before.physics-ok.ensures, p.if1.false, ← b.before.ball-ok.ensures, b.if2.false, ← c.before.density-ok.ensures, c.if3.true)
+    rw (← p.before.physics_ok.ensures, p.if-not-physics_ok.false, ← b.before.ball_ok.ensures, b.if-not-ball_ok.false, ← c.before.density_ok.ensures, c.if-not-density_ok.true)
 
-returns-4 : tie.Need-returns-4
+returns-4 : tie.Need-returns-then-not-landing_ok
 unfolding input_test
 returns-4 c =
     let d = c.before.before in
     let b = d.before.before in
     let p = b.before.before in
     rw (
-      ← p.before.physics-ok.ensures,
-      p.if1.false,
-      ← b.before.ball-ok.ensures,
-      b.if2.false,
-      ← d.before.density-ok.ensures,
-      d.if3.false,
-      ← c.before.landing-ok.ensures,
-      c.if4.true,
+      ← p.before.physics_ok.ensures,
+      p.if-not-physics_ok.false,
+      ← b.before.ball_ok.ensures,
+      b.if-not-ball_ok.false,
+      ← d.before.density_ok.ensures,
+      d.if-not-density_ok.false,
+      ← c.before.landing_ok.ensures,
+      c.if-not-landing_ok.true,
     )
 
-returns-5 : tie.Need-returns-5
+returns-5 : tie.Need-returns
 unfolding input_test
 returns-5 c =
     let d = c.before.before in
     let b = d.before.before in
     let p = b.before.before in
     rw (
-      ← p.before.physics-ok.ensures,
-      p.if1.false,
-      ← b.before.ball-ok.ensures,
-      b.if2.false,
-      ← d.before.density-ok.ensures,
-      d.if3.false,
-      ← c.before.landing-ok.ensures,
-      c.if4.false,
+      ← p.before.physics_ok.ensures,
+      p.if-not-physics_ok.false,
+      ← b.before.ball_ok.ensures,
+      b.if-not-ball_ok.false,
+      ← d.before.density_ok.ensures,
+      d.if-not-density_ok.false,
+      ← c.before.landing_ok.ensures,
+      c.if-not-landing_ok.false,
     )
 
 pub input_test_spec : {M : Type 1} → statement M

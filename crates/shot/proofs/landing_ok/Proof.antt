@@ -8,7 +8,7 @@ returns : tie.Need-returns
 unfolding landing_ok of_bits round
 returns c =
     let v = c.before.before in
-    simp (← v.before.within.ensures, ← v.vec-about.ensures, ← c.before.vec-about2.ensures, ← c.vec-about3.ensures)
+    simp (← v.before.within.ensures, ← v.vec_about.ensures, ← c.before.vec_about-2.ensures, ← c.vec_about-3.ensures)
 
 pub landing_ok_spec : {M : Type 1} → statement M
 landing_ok_spec =

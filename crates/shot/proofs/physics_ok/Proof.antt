@@ -6,7 +6,7 @@ use Rattle.shot.proofs.physics_ok.Tie as tie
 
 returns : tie.Need-returns
 unfolding physics_ok of_bits round
-returns c = let w = c.before.before in simp (← w.before.step-physics-ok.ensures, ← w.within.ensures, ← c.before.within2.ensures)
+returns c = let w = c.before.before in simp (← w.before.step_physics_ok.ensures, ← w.within.ensures, ← c.before.within-2.ensures)
 
 pub physics_ok_spec : {M : Type 1} → statement M
 physics_ok_spec =

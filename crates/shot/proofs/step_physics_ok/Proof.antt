@@ -6,7 +6,7 @@ use Rattle.shot.proofs.step_physics_ok.Tie as tie
 
 returns : tie.Need-returns
 unfolding step_physics_ok of_bits round
-returns c = simp (← c.before.before.within.ensures, ← c.before.within2.ensures, ← c.within3.ensures)
+returns c = simp (← c.before.before.within.ensures, ← c.before.within-2.ensures, ← c.within-3.ensures)
 
 pub step_physics_ok_spec : {M : Type 1} → statement M
 step_physics_ok_spec =

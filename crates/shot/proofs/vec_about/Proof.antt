@@ -6,7 +6,7 @@ use Rattle.shot.proofs.vec_about.Tie as tie
 
 returns : tie.Need-returns
 unfolding vec_about of_bits round
-returns c = simp (← c.before.before.within.ensures, ← c.before.within2.ensures, ← c.within3.ensures)
+returns c = simp (← c.before.before.within.ensures, ← c.before.within-2.ensures, ← c.within-3.ensures)
 
 pub vec_about_spec : {M : Type 1} → statement M
 vec_about_spec =
