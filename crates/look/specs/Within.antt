@@ -1,5 +1,6 @@
 -- Statements. The rectangle holds every spot looked at, and lies within every other that does; so two courses that agree within it give the same run.
 use Rattle.std.specs.Prelude.{◌≡◌, refl, List, [], ◌∷◌, Bool, not, ◌&&◌, cond, Float}
+use Rattle.std.proofs.Math.Path.{sym, ap, subst}
 use Rattle.std.proofs.Math.Bool.{true, false}
 use Rattle.std.proofs.Math.Dec.{T}
 use Rattle.std.specs.Float.{nan, inf, fin}
@@ -142,9 +143,9 @@ all_in : (r : Rect) (l : List Spot) → r.seen ≡ true → Finite r → All Fin
 unfolding rect_from widen
 all_in r [] e f h = tt
 all_in r (s ∷ l) e f h =
-    rw e
-    (let n = step_has Fin r s f h.0 in
-    (kept (widen_if true r s.x s.z) l s refl n h.1 (step_new r s f h.0), all_in (widen_if true r s.x s.z) l refl n h.1))
+    let n = step_has Fin r s f h.0 in
+    subst (λ (q : Rect). All (λ (p : Spot). Within q p.x p.z) (s ∷ l)) (ap (λ (b : Bool). rect_from (widen_if b r s.x s.z) l) (sym e))
+    (kept (widen_if true r s.x s.z) l s refl n h.1 (step_new r s f h.0), all_in (widen_if true r s.x s.z) l refl n h.1)
 
 point : Spot → Rect
 point s = record { seen = true; x_lo = s.x; x_hi = s.x; z_lo = s.z; z_hi = s.z }
@@ -156,7 +157,8 @@ spots_within r [] e h = tt
 spots_within r (s ∷ l) e h =
     let f : Finite (point s) = (h.0.0, h.0.0, h.0.1, h.0.1) in
     let w : Within (point s) s.x s.z = (le_self _ h.0.0, le_self _ h.0.0, le_self _ h.0.1, le_self _ h.0.1) in
-    rw e (kept (point s) l s refl f h.1 w, all_in (point s) l refl f h.1)
+    subst (λ (q : Rect). All (λ (p : Spot). Within q p.x p.z) (s ∷ l)) (ap (λ (b : Bool). rect_from (widen_if b r s.x s.z) l) (sym e))
+    (kept (point s) l s refl f h.1 w, all_in (point s) l refl f h.1)
 
 -- what holds of a rectangle's edges and of every x and z of the list holds of the last one's edges
 edges_have : (P : Float → Type 0) (r : Rect) (l : List Spot) → Edges P r → All (Both P) l → Edges P (rect_from r l)

@@ -11,15 +11,15 @@ at_doubles : (x z : Float) (r : Bool) → is_double x ≡ true → is_double z �
 unfolding spot_ok
 at_doubles x z r a b h = rw (a, b) h
 
-returns : tie.Need-returns
+returns : tie.Need-returns-then-coord_ok
 returns c =
     let s = c.before.before.before in
-    at_doubles _ _ _ s.well-formed.0.1 s.well-formed.1.0.1 (rw (← c.before.before.coord-ok.ensures, c.before.if1.true) c.coord-ok2.ensures)
+    at_doubles _ _ _ s.well_formed.0.1 s.well_formed.1.0.1 (rw (← c.before.before.coord_ok.ensures, c.before.if-coord_ok.true) c.coord_ok-then-coord_ok.ensures)
 
-returns-2 : tie.Need-returns-2
+returns-2 : tie.Need-returns-else-coord_ok
 returns-2 c =
     let s = c.before.before in
-    at_doubles _ _ _ s.well-formed.0.1 s.well-formed.1.0.1 (rw (← c.before.coord-ok.ensures, c.if1.false))
+    at_doubles _ _ _ s.well_formed.0.1 s.well_formed.1.0.1 (rw (← c.before.coord_ok.ensures, c.if-coord_ok.false))
 
 pub spot_ok_spec : {M : Type 1} → statement M
 spot_ok_spec = tie.close (tie.spec (λ c κs. tt) (λ c κs. tt) returns returns-2)

@@ -3,21 +3,21 @@ use Rattle.look.specs.Rect.{widen}
 use Rattle.look.proofs.widen_to.Statement.{statement}
 use Rattle.look.proofs.widen_to.Tie as tie
 
-returns : tie.Need-returns
+returns : tie.Need-returns-then-r
 unfolding widen
 returns c =
     let at-lesser-of = c.before.before.before in
     rw (
-      at-lesser-of.before.if1.true,
-      at-lesser-of.lesser-of.ensures,
-      c.before.before.greater-of.ensures,
-      c.before.lesser-of2.ensures,
-      c.greater-of2.ensures,
+      at-lesser-of.before.if-r.true,
+      at-lesser-of.lesser_of.ensures,
+      c.before.before.greater_of.ensures,
+      c.before.lesser_of-then-r.ensures,
+      c.greater_of-then-r.ensures,
     )
 
-returns-2 : tie.Need-returns-2
+returns-2 : tie.Need-returns-else-r
 unfolding widen
-returns-2 c = rw c.if1.false
+returns-2 c = rw c.if-r.false
 
 pub widen_to_spec : {M : Type 1} → statement M
 widen_to_spec =

@@ -6,7 +6,7 @@ use Rattle.sheet.proofs.edges_ok.Tie as tie
 
 returns : tie.Need-returns
 unfolding edges_ok
-returns c = simp (← c100000, ← c.before.within.ensures, ← c.within2.ensures)
+returns c = simp (← c100000, ← c.before.within.ensures, ← c.within-2.ensures)
 
 pub edges_ok_spec : {M : Type 1} → statement M
 edges_ok_spec = tie.close (tie.spec (λ c κs. tt) (λ c κs. tt) returns)

@@ -9,7 +9,7 @@ use Rattle.sheet.specs.Sheet.{header_ok, surfaces, patches}
 use Rattle.sheet.proofs.header_ok.Statement.{statement}
 use Rattle.sheet.proofs.header_ok.Tie as tie
 
-returns : tie.Need-returns
+returns : tie.Need-returns-then-sheet-lt16
 unfolding header_ok
 returns c =
     let start : tie.Start = search in
@@ -18,9 +18,9 @@ returns c =
       and-false,
     )
 
-returns-2 : tie.Need-returns-2
+returns-2 : tie.Need-returns
 unfolding header_ok
-returns-2 c = simp (← c.before.before.before.half.ensures, ← c.before.before.half2.ensures, ← c.before.half3.ensures, ← c.half4.ensures)
+returns-2 c = simp (← c.before.before.before.half-s.ensures, ← c.before.before.half-at.ensures, ← c.before.half-p.ensures, ← c.half-to.ensures)
 
 pub header_ok_spec : {M : Type 1} → statement M
 header_ok_spec =

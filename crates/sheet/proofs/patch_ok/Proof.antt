@@ -8,29 +8,29 @@ use Rattle.sheet.proofs.patch_ok.Tie as tie
 returns : tie.Need-returns
 unfolding patch_ok
 returns c =
-    let at-double7 : tie.After-double7 = search in
-    let at-double6 : tie.After-double6 = search in
-    let at-double5 : tie.After-double5 = search in
-    let at-double4 : tie.After-double4 = search in
-    let at-edges-ok : tie.After-edges-ok = search in
+    let at-double7 : tie.After-double-7 = search in
+    let at-double6 : tie.After-double-6 = search in
+    let at-double5 : tie.After-double-5 = search in
+    let at-double4 : tie.After-double-4 = search in
+    let at-edges-ok : tie.After-edges_ok = search in
     let at-double : tie.After-double = search in
     simp (
       ← c1000,
       ← c4,
       ← at-double.double.ensures,
-      ← at-edges-ok.before.double2.ensures,
-      ← at-edges-ok.edges_ok_lem.ensures,
-      ← at-double4.before.double3.ensures,
-      ← at-double4.double4.ensures,
-      ← at-double5.before.edges-ok2.ensures,
-      ← at-double5.double5.ensures,
+      ← at-edges-ok.before.double-2.ensures,
+      ← at-edges-ok.edges_ok.ensures,
+      ← at-double4.before.double-3.ensures,
+      ← at-double4.double-4.ensures,
+      ← at-double5.before.edges_ok-2.ensures,
+      ← at-double5.double-5.ensures,
       ← at-double6.before.within.ensures,
-      ← at-double6.double6.ensures,
-      ← at-double7.before.within2.ensures,
-      ← at-double7.double7.ensures,
-      ← c.before.within3.ensures,
+      ← at-double6.double-6.ensures,
+      ← at-double7.before.within-2.ensures,
+      ← at-double7.double-7.ensures,
+      ← c.before.within-3.ensures,
       ← c.whole.ensures,
-      ← at-double.before.before.pre.1,
+      ← at-double.before.before.requires.1,
     )
 
 pub patch_ok_spec : {M : Type 1} → statement M

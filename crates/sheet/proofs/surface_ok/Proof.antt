@@ -8,11 +8,11 @@ use Rattle.sheet.proofs.surface_ok.Tie as tie
 returns : tie.Need-returns
 unfolding surface_ok
 returns c =
-    let at-within3 : tie.After-within3 = search in
-    let at-law-ok : tie.After-law-ok = search in
-    let at-whole2 : tie.After-whole2 = search in
-    let at-double3 : tie.After-double3 = search in
-    let at-double2 : tie.After-double2 = search in
+    let at-within3 : tie.After-within-3 = search in
+    let at-law-ok : tie.After-law_ok = search in
+    let at-whole2 : tie.After-whole-2 = search in
+    let at-double3 : tie.After-double-3 = search in
+    let at-double2 : tie.After-double-2 = search in
     let at-double : tie.After-double = search in
     simp (
       ← c0,
@@ -20,18 +20,18 @@ returns c =
       ← c10,
       ← at-double.before.whole.ensures,
       ← at-double.double.ensures,
-      ← at-double2.before.restitution-ok.ensures,
-      ← at-double2.double2.ensures,
+      ← at-double2.before.restitution_ok.ensures,
+      ← at-double2.double-2.ensures,
       ← at-double3.before.within.ensures,
-      ← at-double3.double3.ensures,
-      ← at-whole2.before.within2.ensures,
-      ← at-whole2.whole2.ensures,
-      ← at-law-ok.before.double4.ensures,
-      ← at-law-ok.law-ok.ensures,
-      ← at-within3.before.double5.ensures,
-      ← at-within3.within3.ensures,
-      ← c.before.double6.ensures,
-      ← c.within4.ensures,
+      ← at-double3.double-3.ensures,
+      ← at-whole2.before.within-2.ensures,
+      ← at-whole2.whole-2.ensures,
+      ← at-law-ok.before.double-4.ensures,
+      ← at-law-ok.law_ok.ensures,
+      ← at-within3.before.double-5.ensures,
+      ← at-within3.within-3.ensures,
+      ← c.before.double-6.ensures,
+      ← c.within-4.ensures,
     )
 
 pub surface_ok_spec : {M : Type 1} → statement M
