@@ -6,7 +6,7 @@ use Rattle.fields.proofs.is_whole.Tie as tie
 
 returns : tie.Need-returns
 unfolding is_whole
-returns c = rw (c.whole.ensures, c.before.nat-of.ensures)
+returns c = rw (c.whole-y.ensures, c.before.nat_of-n.ensures)
 
 pub is_whole_spec : {M : Type 1} → statement M
 is_whole_spec =

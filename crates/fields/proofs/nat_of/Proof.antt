@@ -6,25 +6,25 @@ use Rattle.fields.proofs.Cut.{small, large, beyond, under}
 use Rattle.fields.proofs.nat_of.Statement.{statement}
 use Rattle.fields.proofs.nat_of.Tie as tie
 
-truncating-f64-to-u64-requires : tie.Need-truncating-f64-to-u64-requires
+truncating-f64-to-u64-requires : tie.Need-truncating_f64_to_u64-n-requires
 unfolding of_bits neg
-truncating-f64-to-u64-requires c κs = (subst T (sym c.before.if1.true) tt, subst T (sym c.if2.true) tt)
+truncating-f64-to-u64-requires c κs = (subst T (sym c.before.if-x.true) tt, subst T (sym c.if-x-2.true) tt)
 
-returns : tie.Need-returns
+returns : tie.Need-returns-then-n-le4294967295
 unfolding nat_of
-returns c = small _ _ c.before.truncating-f64-to-u64.ensures c.if3.true
+returns c = small _ _ c.before.truncating_f64_to_u64-n.ensures c.if-n-le4294967295.true
 
-returns-2 : tie.Need-returns-2
+returns-2 : tie.Need-returns-then-x-2
 unfolding nat_of
-returns-2 c = large _ _ c.before.truncating-f64-to-u64.ensures c.if3.false
+returns-2 c = large _ _ c.before.truncating_f64_to_u64-n.ensures c.if-n-le4294967295.false
 
-returns-3 : tie.Need-returns-3
+returns-3 : tie.Need-returns-then-x
 unfolding nat_of of_bits neg
-returns-3 c = beyond _ c.before.if1.true c.if2.false
+returns-3 c = beyond _ c.before.if-x.true c.if-x-2.false
 
-returns-4 : tie.Need-returns-4
+returns-4 : tie.Need-returns
 unfolding nat_of of_bits neg
-returns-4 c = under _ c.if1.false
+returns-4 c = under _ c.if-x.false
 
 pub nat_of_spec : {M : Type 1} → statement M
 nat_of_spec =

@@ -5,9 +5,9 @@ use Rattle.slide.proofs.above.Tie as tie
 
 returns : tie.Need-returns
 unfolding above_of
-returns c = simp (← c.before.turned-at.ensures, ← c.slip-speed.ensures)
+returns c = simp (← c.before.turned_at.ensures, ← c.slip_speed.ensures)
 
-turned-at-requires : tie.Need-turned-at-requires
+turned-at-requires : tie.Need-turned_at-requires
 turned-at-requires c κs = c.before.requires
 
 pub above_spec : {M : Type 1} → statement M

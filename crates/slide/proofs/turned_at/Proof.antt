@@ -3,9 +3,9 @@ use Rattle.slide.proofs.turned_at.Statement.{statement}
 use Rattle.slide.proofs.turned_at.Tie as tie
 
 returns : tie.Need-returns
-returns c = c.slide-turning.ensures
+returns c = c.slide_turning.ensures
 
-slide-turning-requires : tie.Need-slide-turning-requires
+slide-turning-requires : tie.Need-slide_turning-requires
 slide-turning-requires c κs = c.before.before.before.requires
 
 pub turned_at_spec : {M : Type 1} → statement M

@@ -8,15 +8,15 @@ use Rattle.slide.proofs.Patch.slide_fixed.Tie as tie
 returns : tie.Need-returns
 unfolding slide_fixed of_bits round
 returns c =
-    let at-add-scaled4 : tie.After-add-scaled4 = search in
-    let at-fixed-rate3 : tie.After-fixed-rate3 = search in
-    let at-add-scaled : tie.After-add-scaled = search in
-    let at-slide-accel : tie.After-slide-accel = search in
-    rw (← at-slide-accel.slide-accel.ensures, ← at-add-scaled.before.before.slide-spin-accel.ensures)
-    (stages _ _ _ _ at-add-scaled.before.fixed-rate.ensures at-add-scaled.add-scaled.ensures
-    at-fixed-rate3.before.before.fixed-rate2.ensures at-fixed-rate3.before.add-scaled2.ensures at-fixed-rate3.fixed-rate3.ensures
-    at-add-scaled4.before.before.add-scaled3.ensures at-add-scaled4.before.fixed-rate4.ensures at-add-scaled4.add-scaled4.ensures
-    c.before.before.add-scaled5.ensures c.before.add-scaled6.ensures c.add-scaled7.ensures)
+    let at-add-scaled4 : tie.After-add_scaled-4 = search in
+    let at-fixed-rate3 : tie.After-fixed_rate-k3 = search in
+    let at-add-scaled : tie.After-add_scaled = search in
+    let at-slide-accel : tie.After-slide_accel-accel = search in
+    rw (← at-slide-accel.slide_accel-accel.ensures, ← at-add-scaled.before.before.slide_spin_accel-spin_accel.ensures)
+    (stages _ _ _ _ at-add-scaled.before.fixed_rate-k1.ensures at-add-scaled.add_scaled.ensures
+    at-fixed-rate3.before.before.fixed_rate-k2.ensures at-fixed-rate3.before.add_scaled-2.ensures at-fixed-rate3.fixed_rate-k3.ensures
+    at-add-scaled4.before.before.add_scaled-3.ensures at-add-scaled4.before.fixed_rate-k4.ensures at-add-scaled4.add_scaled-4.ensures
+    c.before.before.add_scaled-5.ensures c.before.add_scaled-6.ensures c.add_scaled-7.ensures)
 
 pub slide_fixed_spec : {M : Type 1} → statement M
 slide_fixed_spec = tie.close (tie.spec (λ c κs. tt) (λ c κs. tt) (λ c κs. tt) (λ c κs. tt) (λ c κs. tt) (λ c κs. tt) (λ c κs. tt) (λ c κs. tt)

@@ -5,7 +5,7 @@ use Rattle.slide.proofs.Patch.slip_rate.Tie as tie
 
 returns : tie.Need-returns
 unfolding slip_rate
-returns c = simp (← c.before.slip-decay.ensures, ← c.dot.ensures)
+returns c = simp (← c.before.slip_decay.ensures, ← c.dot.ensures)
 
 pub slip_rate_spec : {M : Type 1} → statement M
 slip_rate_spec = tie.close (tie.spec (λ c κs. tt) (λ c κs. tt) returns)
