@@ -14,7 +14,6 @@ use mathlib.Core.Bool.{Bool, true, false, not, cond}
 use lib.Bits.{bit_and, and_step}
 use lib.Pow.{pow_mono}
 use lib.Dec.{lit<}
-use borrow.Author.Tests.{not-false}
 use lib.Count.{count_trailing_zeros, under}
 use Rattle.number.specs.Number.{within_of}
 use Rattle.sheet.specs.Sheet.{first, covers, surfaces, patches}
@@ -262,15 +261,15 @@ row s ix p d c b k ld lc eb ek t h w lw =
     at_w = omega arith
 
 module _ (s ix : List ℕ) (x z : Float) (t : Indexed s ix) (c : ℕ) (l : c < 16) {lo hi : Float} {w : Bool} where
-  pub in_column : lo ≡ cut ix c → hi ≡ cut ix (c + 1) → w ≡ within_of lo hi x → not w ≡ false → Row s (covers s x z) ix (8 * c)
+  pub in_column : lo ≡ cut ix c → hi ≡ cut ix (c + 1) → w ≡ within_of lo hi x → w ≡ true → Row s (covers s x z) ix (8 * c)
   in_column e f v g =
       row s ix (covers s x z) 0 c c (8 * c) (lit< tt) l (omega arith) (omega arith) t
-      (λ i h. reach_x s x z i h (cut ix c) (cut ix (c + 1)) (rw (← e, ← f, ← v) (not-false w g)))
+      (λ i h. reach_x s x z i h (cut ix c) (cut ix (c + 1)) (rw (← e, ← f, ← v) g))
 
-  pub in_row : lo ≡ cut ix (17 + c) → hi ≡ cut ix (17 + c + 1) → w ≡ within_of lo hi z → not w ≡ false → Row s (covers s x z) ix (128 + 8 * c)
+  pub in_row : lo ≡ cut ix (17 + c) → hi ≡ cut ix (17 + c + 1) → w ≡ within_of lo hi z → w ≡ true → Row s (covers s x z) ix (128 + 8 * c)
   in_row e f v g =
       row s ix (covers s x z) 1 c (17 + c) (128 + 8 * c) (lit< tt) l (omega arith) (omega arith) t
-      (λ i h. reach_z s x z i h (cut ix (17 + c)) (cut ix (17 + c + 1)) (rw (← e, ← f, ← v) (not-false w g)))
+      (λ i h. reach_z s x z i h (cut ix (17 + c)) (cut ix (17 + c + 1)) (rw (← e, ← f, ← v) g))
 
 -- a scan from one word to the next: what is left of it from word w on
 module _ (p : ℕ → Bool) (count n : ℕ) where

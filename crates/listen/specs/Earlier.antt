@@ -24,6 +24,10 @@ no_size true size a b c h l p = round-le binary64 true size c false 0 1 p (zero-
 -- what is at most y, less y, is at most 0
 pub sub_to_0 : (x y : Float) → T (finite_of x) → T (finite_of y) → T (le x y) → T (le (x ⊖ y) (dec 0 1))
 unfolding sub neg add
+sub_to_0 nan y i j h = elim i [ ]
+sub_to_0 (inf _) y i j h = elim i [ ]
+sub_to_0 (fin s m e) nan i j h = elim j [ ]
+sub_to_0 (fin s m e) (inf _) i j h = elim j [ ]
 sub_to_0 (fin s m e) (fin t n d) i j h =
     let X = m * up e * down d in
     let Y = n * up d * down e in
@@ -62,7 +66,7 @@ module _ (t h c : Float) (i : T (finite_of h)) (j : T (finite_of c)) (p : T (le 
 -- ---- each time of a list that passes its test is a number
 pub time_finite : (l : List Float) → times_ok l ≡ true → (i : ℕ) → i < length l → T (finite_of (get_or l i nan))
 time_finite l e i h =
-    within_finite (dec 0 1) (dec 1000000 1) (get_or l i nan) (unfold round in tt) (unfold round in tt) (((times_exactly l).0 e).in-range i h)
+    within_finite (dec 0 1) (dec 1000000 1) (get_or l i nan) (unfold round in tt) (unfold round in tt) (((times_exactly l).0 e).in_range i h)
 
 pub tolerance_from_0 : (t : Float) → tolerance_ok t ≡ true → T (le (dec 0 1) t)
 unfolding tolerance_ok

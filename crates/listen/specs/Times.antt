@@ -33,7 +33,7 @@ reads b (x ∷ l) e =
     let r = reads x l (and_right (time_ok b x) (in_order x l) e) in
     let w = holds (and_left (within_of (dec 0 1) (dec 1000000 1) x) (not (lt x b)) t) in (
       record {
-        in_range = elim [ zero ↦ λ h. w | suc i ↦ λ h. r.0.in-range i (omega arith) ];
+        in_range = elim [ zero ↦ λ h. w | suc i ↦ λ h. r.0.in_range i (omega arith) ];
         not_lower = elim [ zero ↦ λ h. r.1 (omega arith) | suc i ↦ λ h. r.0.not_lower i (omega arith) ];
       },
       λ h. holds (and_right (within_of (dec 0 1) (dec 1000000 1) x) (not (lt x b)) t),
@@ -43,10 +43,10 @@ passes : (b : Float) (l : List Float) → Times l → From b l → in_order b l 
 unfolding in_order time_ok
 passes b [] r f = refl
 passes b (x ∷ l) r f =
-    let w = is_true (within_of (dec 0 1) (dec 1000000 1) x) (r.in-range 0 (omega arith)) in
+    let w = is_true (within_of (dec 0 1) (dec 1000000 1) x) (r.in_range 0 (omega arith)) in
     let n = is_true (not (lt x b)) (f (omega arith)) in
     let k = passes x l
-    (record { in_range = λ i h. r.in-range (suc i) (omega arith); not_lower = λ i h. r.not_lower (suc i) (omega arith) })
+    (record { in_range = λ i h. r.in_range (suc i) (omega arith); not_lower = λ i h. r.not_lower (suc i) (omega arith) })
     (λ h. r.not_lower 0 (omega arith)) in
     rw (w, n, k)
 
@@ -55,4 +55,4 @@ pub times_exactly : (l : List Float) → (times_ok l ≡ true) ↔ Times l
 times_exactly l = (λ e. (reads (dec 0 1) l e).0, λ r. passes (dec 0 1) l r (λ h. not_below (get_or l 0 nan) (first r h)))
   where
     first : Times l → 0 < length l → T (le (dec 0 1) (get_or l 0 nan))
-    first r h = within_lo (dec 0 1) (dec 1000000 1) (get_or l 0 nan) (r.in-range 0 h)
+    first r h = within_lo (dec 0 1) (dec 1000000 1) (get_or l 0 nan) (r.in_range 0 h)

@@ -7,68 +7,68 @@ use Rattle.board.proofs.Lists.{sized}
 use Rattle.board.proofs.answer_of.Statement.{statement}
 use Rattle.board.proofs.answer_of.Tie as tie
 
-returns : tie.Need-returns
+returns : tie.Need-returns-then-e-gt7
 unfolding answer_of
-returns c = rw (lt-ltb _ _ c.if1.true)
+returns c = rw (lt-ltb _ _ c.if-e-gt7.true)
 
-returns-2 : tie.Need-returns-2
+returns-2 : tie.Need-returns-then-holds_shot
 unfolding answer_of near of_bits round neg
 returns-2 c =
-    let at-if2 : tie.Then2 = search in
+    let at-if2 : tie.Then-within = search in
     let at-within : tie.After-within = search in
     simp (
-      le-ltb _ _ at-within.before.if1.left,
-      ← at-if2.before.within2.ensures,
+      le-ltb _ _ at-within.before.if-e-gt7.false,
+      ← at-if2.before.within-2.ensures,
       ← at-within.within.ensures,
-      at-if2.if2.taken,
-      ← c.before.holds-shot.ensures,
-      c.if3.true,
+      at-if2.if-within.true,
+      ← c.before.holds_shot.ensures,
+      c.if-holds_shot.true,
     )
 
-returns-3 : tie.Need-returns-3
+returns-3 : tie.Need-returns-then-used-count
 unfolding answer_of near of_bits round neg
 returns-3 c =
-    let at-if3 : tie.Else3 = search in
-    let at-if2 : tie.Then2 = search in
+    let at-if3 : tie.Else-holds_shot = search in
+    let at-if2 : tie.Then-within = search in
     let at-within : tie.After-within = search in
     let at_start_lem : tie.Start = search in
-    let n = sized at_start_lem.args.entries at_start_lem.args.count at_start_lem.good.0.1.0.1 at_start_lem.pre in
+    let n = sized at_start_lem.args.entries at_start_lem.args.count at_start_lem.well_formed.0.1.0.1 at_start_lem.requires in
     simp (
-      le-ltb _ _ at-within.before.if1.left,
-      ← at-if2.before.within2.ensures,
+      le-ltb _ _ at-within.before.if-e-gt7.false,
+      ← at-if2.before.within-2.ensures,
       ← at-within.within.ensures,
-      at-if2.if2.taken,
-      ← at-if3.before.holds-shot.ensures,
-      at-if3.if3.left,
+      at-if2.if-within.true,
+      ← at-if3.before.holds_shot.ensures,
+      at-if3.if-holds_shot.false,
       n,
       ← c.before.used.ensures,
-      c.if4.true,
+      c.if-used-count.true,
     )
 
-returns-4 : tie.Need-returns-4
+returns-4 : tie.Need-returns-then-within
 unfolding answer_of near of_bits round neg
 returns-4 c =
-    let at-if3 : tie.Else3 = search in
-    let at-if2 : tie.Then2 = search in
+    let at-if3 : tie.Else-holds_shot = search in
+    let at-if2 : tie.Then-within = search in
     let at-within : tie.After-within = search in
     let at_start_lem : tie.Start = search in
-    let n = sized at_start_lem.args.entries at_start_lem.args.count at_start_lem.good.0.1.0.1 at_start_lem.pre in
+    let n = sized at_start_lem.args.entries at_start_lem.args.count at_start_lem.well_formed.0.1.0.1 at_start_lem.requires in
     simp (
-      le-ltb _ _ at-within.before.if1.left,
-      ← at-if2.before.within2.ensures,
+      le-ltb _ _ at-within.before.if-e-gt7.false,
+      ← at-if2.before.within-2.ensures,
       ← at-within.within.ensures,
-      at-if2.if2.taken,
-      ← at-if3.before.holds-shot.ensures,
-      at-if3.if3.left,
+      at-if2.if-within.true,
+      ← at-if3.before.holds_shot.ensures,
+      at-if3.if-holds_shot.false,
       n,
       ← c.before.used.ensures,
-      c.if4.false,
+      c.if-used-count.false,
     )
 
-returns-5 : tie.Need-returns-5
+returns-5 : tie.Need-returns
 unfolding answer_of near of_bits round neg
 returns-5 c =
-    simp (le-ltb _ _ c.before.before.before.if1.false, ← c.before.within2.ensures, ← c.before.before.within.ensures, c.if2.false)
+    simp (le-ltb _ _ c.before.before.before.if-e-gt7.false, ← c.before.within-2.ensures, ← c.before.before.within.ensures, c.if-within.false)
 
 pub answer_of_spec : {M : Type 1} → statement M
 answer_of_spec =

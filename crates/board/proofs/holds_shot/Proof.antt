@@ -13,46 +13,46 @@ use Rattle.board.proofs.holds_shot.Tie as tie
 use Rattle.board.proofs.holds_shot.Reads as reads
 use Rattle.board.proofs.holds_shot.Lts as lts
 
-abbrev invariant-loop : tie.invariant-loop
+abbrev invariant-loop : tie.invariant-loop-i
 invariant-loop count shot entries i₀ i = (i ≤ count) × (holds shot (drop i (take count entries)) ≡ holds shot (take count entries))
 
-abbrev decreases-loop : tie.decreases-loop
+abbrev decreases-loop : tie.decreases-loop-i
 decreases-loop count shot entries i₀ i = count - i
 
-long : (c : lts.Start reads.Pre reads.Post invariant-loop decreases-loop) → c.args.count ≤ length c.args.t1
-long c = let g : length c.args.t1 ≡ 256 = c.well-formed.0.1.0.1 in omega arith
+long : (c : lts.Start reads.Pre reads.Post invariant-loop decreases-loop) → c.args.count ≤ length c.args.entries
+long c = let g : length c.args.entries ≡ 256 = c.well_formed.0.1.0.1 in omega arith
 
-loop-holds : tie.Need-loop-init invariant-loop decreases-loop
+loop-holds : tie.Need-loop-i-init invariant-loop decreases-loop
 loop-holds c = (omega arith, refl)
 
-mul-e : tie.Need-overflow-mul-e invariant-loop decreases-loop
+mul-e : tie.Need-offset_bounds-entries-i invariant-loop decreases-loop
 mul-e c = omega arith
 
-array-copy-out-e : tie.Need-array-copy-out-e invariant-loop decreases-loop
+array-copy-out-e : tie.Need-bounds-entries-i invariant-loop decreases-loop
 array-copy-out-e c = omega arith
 
-returns : tie.Need-returns invariant-loop decreases-loop
+returns : tie.Need-returns-then-e-shot invariant-loop decreases-loop
 returns c =
-    let at-loop-test : tie.In-loop invariant-loop decreases-loop = search in
+    let at-loop-test : tie.In-loop-i invariant-loop decreases-loop = search in
     held _ _ (long at-loop-test.before.before) _ _ _ (search rules)
-    at-loop-test.loop-test.taken (eq-eqb _ _ c.if1.true)
+    at-loop-test.loop-i-test.true (eq-eqb _ _ c.if-e-shot.true)
 
-add-i : tie.Need-overflow-add-i invariant-loop decreases-loop
+add-i : tie.Need-overflow_add-i invariant-loop decreases-loop
 add-i c = omega arith
 
-loop-less : tie.Need-loop-smaller invariant-loop decreases-loop
+loop-less : tie.Need-loop-i-smaller invariant-loop decreases-loop
 loop-less c = omega arith
 
-loop_again : tie.Need-loop-preserved invariant-loop decreases-loop
+loop_again : tie.Need-loop-i-preserved invariant-loop decreases-loop
 loop_again c =
-    let at-loop-test : tie.In-loop invariant-loop decreases-loop = search in (
+    let at-loop-test : tie.In-loop-i invariant-loop decreases-loop = search in (
       omega arith,
       not_held _ _ (long at-loop-test.before.before) _ _ _ (search rules)
-          at-loop-test.loop-test.taken (ne_eqb _ _ c.if1.false),
+          at-loop-test.loop-i-test.true (ne_eqb _ _ c.if-e-shot.false),
     )
 
-returns-2 : tie.Need-returns-2 invariant-loop decreases-loop
-returns-2 c = missing _ _ (long c.before.before) _ none _ c.before.loop.invariant.1 c.loop-test.false
+returns-2 : tie.Need-returns invariant-loop decreases-loop
+returns-2 c = missing _ _ (long c.before.before) _ none _ c.before.loop-i.invariant.1 c.loop-i-test.false
 
 pub holds_shot_spec : {M : Type 1} → statement M
 holds_shot_spec =

@@ -10,49 +10,49 @@ use Rattle.board.proofs.insert_at.Tie as tie
 use Rattle.board.proofs.insert_at.Reads as reads
 use Rattle.board.proofs.insert_at.Lts as lts
 
-abbrev invariant-loop : tie.invariant-loop
+abbrev invariant-loop : tie.invariant-loop-j
 invariant-loop count at out₀ next₀ j₀ out next j = (j ≤ count) × (length out ≡ 256) × (inserted_at out count j next ≡ inserted_at out₀ count at next₀)
 
-abbrev decreases-loop : tie.decreases-loop
+abbrev decreases-loop : tie.decreases-loop-j
 decreases-loop count at out₀ next₀ j₀ out next j = count - j
 
-loop-holds : tie.Need-loop-init invariant-loop decreases-loop
-loop-holds c = (omega arith, c.well-formed.0.1.0.1, refl)
+loop-holds : tie.Need-loop-j-init invariant-loop decreases-loop
+loop-holds c = (omega arith, c.well_formed.0.1.0.1, refl)
 
-mul-moved : tie.Need-overflow-mul-moved invariant-loop decreases-loop
+mul-moved : tie.Need-offset_bounds-out-j invariant-loop decreases-loop
 mul-moved c = omega arith
 
-array-copy-out-moved : tie.Need-array-copy-out-moved invariant-loop decreases-loop
+array-copy-out-moved : tie.Need-bounds-out-j invariant-loop decreases-loop
 array-copy-out-moved c = omega arith
 
-mul-out : tie.Need-overflow-mul-out invariant-loop decreases-loop
+mul-out : tie.Need-offset_bounds-out-j-in-loop-j invariant-loop decreases-loop
 mul-out c = omega arith
 
-array-set-from-out : tie.Need-array-set-from-out invariant-loop decreases-loop
+array-set-from-out : tie.Need-bounds-out-j-in-loop-j invariant-loop decreases-loop
 array-set-from-out c = omega arith
 
-add-j : tie.Need-overflow-add-j invariant-loop decreases-loop
+add-j : tie.Need-overflow_add-j invariant-loop decreases-loop
 add-j c = omega arith
 
-loop-less : tie.Need-loop-smaller invariant-loop decreases-loop
+loop-less : tie.Need-loop-j-smaller invariant-loop decreases-loop
 loop-less c = omega arith
 
-loop_again : tie.Need-loop-preserved invariant-loop decreases-loop
+loop_again : tie.Need-loop-j-preserved invariant-loop decreases-loop
 loop_again c =
-    let l = c.before.before.loop in
+    let l = c.before.before.loop-j in
     let k : c.before.before.before.args.count < length l.out = omega arith in
-    (omega arith, simp length-set l.invariant.1, shift_turn l.out _ l.j l.next _ c.before.loop-test.true k ∙ l.invariant.2)
+    (omega arith, simp length-set l.invariant.1, shift_turn l.out _ l.j l.next _ c.before.loop-j-test.true k ∙ l.invariant.2)
 
-mul-out-2 : tie.Need-overflow-mul-out-2 invariant-loop decreases-loop
+mul-out-2 : tie.Need-offset_bounds-out-count invariant-loop decreases-loop
 mul-out-2 c = omega arith
 
-array-set-from-out-2 : tie.Need-array-set-from-out-2 invariant-loop decreases-loop
+array-set-from-out-2 : tie.Need-bounds-out-count invariant-loop decreases-loop
 array-set-from-out-2 c = omega arith
 
 returns : tie.Need-returns invariant-loop decreases-loop
 returns c =
     let start : tie.Start invariant-loop decreases-loop = search in
-    let l = c.before.loop in
+    let l = c.before.loop-j in
     let e : l.j ≡ start.args.count = omega arith in
     let k : start.args.count < length l.out = omega arith in
     shift_end l.out _ l.next k ∙ (rw e at l.invariant.2)

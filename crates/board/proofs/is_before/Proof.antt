@@ -6,13 +6,13 @@ use Rattle.board.proofs.is_before.Tie as tie
 returns : tie.Need-returns
 unfolding is_before by_first
 returns c =
-    let at_key : tie.After-key = search in
+    let at_key : tie.After-key-a = search in
     simp (
       c.cleaner.ensures,
-      ← c.before.key2.ensures,
-      ← at_key.key.ensures,
-      ← at_key.before.moving2.ensures,
-      ← at_key.before.before.moving.ensures,
+      ← c.before.key-b.ensures,
+      ← at_key.key-a.ensures,
+      ← at_key.before.moving-n.ensures,
+      ← at_key.before.before.moving-m.ensures,
       by_first,
     )
 

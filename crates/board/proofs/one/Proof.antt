@@ -5,13 +5,13 @@ use Rattle.board.specs.Rules.{one}
 use Rattle.board.proofs.one.Statement.{statement}
 use Rattle.board.proofs.one.Tie as tie
 
-returns : tie.Need-returns
+returns : tie.Need-returns-then-e-bay
 unfolding one
-returns c = rw (eq-eqb _ _ c.if1.true)
+returns c = rw (eq-eqb _ _ c.if-e-bay.true)
 
-returns-2 : tie.Need-returns-2
+returns-2 : tie.Need-returns-else-e-bay
 unfolding one
-returns-2 c = rw (ne_eqb _ _ c.if1.false)
+returns-2 c = rw (ne_eqb _ _ c.if-e-bay.false)
 
 pub one_spec : {M : Type 1} → statement M
 one_spec =

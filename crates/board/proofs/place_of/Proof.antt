@@ -14,47 +14,47 @@ use Rattle.board.proofs.place_of.Reads as reads
 use Rattle.board.proofs.place_of.Lts as lts
 use Rattle.board.proofs.is_before.Reads as is-before-reads
 
-abbrev invariant-loop : tie.invariant-loop
+abbrev invariant-loop : tie.invariant-loop-i
 invariant-loop count pin_x_lem pin_z_lem e entries i₀ i = (i ≤ count) ×
     (i + place_in (is_before pin_x_lem pin_z_lem e) (drop i (take count entries)) ≡ place_in (is_before pin_x_lem pin_z_lem e) (take count entries))
 
-abbrev decreases-loop : tie.decreases-loop
+abbrev decreases-loop : tie.decreases-loop-i
 decreases-loop count pin_x_lem pin_z_lem e entries i₀ i = count - i
 
-long : (c : lts.Start (is-before-reads.Asked, is-before-reads.Learnt) reads.Pre reads.Post invariant-loop decreases-loop) → c.args.count ≤ length c.args.t1
-long c = let g : length c.args.t1 ≡ 256 = c.well-formed.0.1.0.1 in omega arith
+long : (c : lts.Start (is-before-reads.Asked, is-before-reads.Learnt) reads.Pre reads.Post invariant-loop decreases-loop) → c.args.count ≤ length c.args.entries
+long c = let g : length c.args.entries ≡ 256 = c.well_formed.0.1.0.1 in omega arith
 
-loop-holds : tie.Need-loop-init invariant-loop decreases-loop
+loop-holds : tie.Need-loop-i-init invariant-loop decreases-loop
 loop-holds c = (omega arith, zero-add _)
 
-mul-is-before : tie.Need-overflow-mul-is-before invariant-loop decreases-loop
+mul-is-before : tie.Need-offset_bounds-entries-i invariant-loop decreases-loop
 mul-is-before c = omega arith
 
-array-copy-out-is-before : tie.Need-array-copy-out-is-before invariant-loop decreases-loop
+array-copy-out-is-before : tie.Need-bounds-entries-i invariant-loop decreases-loop
 array-copy-out-is-before c = omega arith
 
-returns : tie.Need-returns invariant-loop decreases-loop
+returns : tie.Need-returns-then-is_before invariant-loop decreases-loop
 returns c =
-    let at-loop-test : tie.In-loop invariant-loop decreases-loop = search in
+    let at-loop-test : tie.In-loop-i invariant-loop decreases-loop = search in
     here _ _ (long at-loop-test.before.before) _ _ _ (omega arith)
-    at-loop-test.loop-test.taken (sym c.before.is-before.ensures ∙ c.if1.true)
+    at-loop-test.loop-i-test.true (sym c.before.is_before.ensures ∙ c.if-is_before.true)
 
-add-i : tie.Need-overflow-add-i invariant-loop decreases-loop
+add-i : tie.Need-overflow_add-i invariant-loop decreases-loop
 add-i c = omega arith
 
-loop-less : tie.Need-loop-smaller invariant-loop decreases-loop
+loop-less : tie.Need-loop-i-smaller invariant-loop decreases-loop
 loop-less c = omega arith
 
-loop_again : tie.Need-loop-preserved invariant-loop decreases-loop
+loop_again : tie.Need-loop-i-preserved invariant-loop decreases-loop
 loop_again c =
-    let at-loop-test : tie.In-loop invariant-loop decreases-loop = search in (
+    let at-loop-test : tie.In-loop-i invariant-loop decreases-loop = search in (
       omega arith,
       further _ _ (long at-loop-test.before.before) _ _ _ (omega arith)
-          at-loop-test.loop-test.taken (sym c.before.is-before.ensures ∙ c.if1.false),
+          at-loop-test.loop-i-test.true (sym c.before.is_before.ensures ∙ c.if-is_before.false),
     )
 
-returns-2 : tie.Need-returns-2 invariant-loop decreases-loop
-returns-2 c = last _ _ (long c.before.before) _ none _ c.before.loop.invariant.1 c.loop-test.false
+returns-2 : tie.Need-returns invariant-loop decreases-loop
+returns-2 c = last _ _ (long c.before.before) _ none _ c.before.loop-i.invariant.1 c.loop-i-test.false
 
 pub place_of_spec : {M : Type 1} → statement M
 place_of_spec =

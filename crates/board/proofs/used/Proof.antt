@@ -13,32 +13,32 @@ use Rattle.board.proofs.used.Reads as reads
 use Rattle.board.proofs.used.Lts as lts
 use Rattle.board.proofs.one.Reads as one-reads
 
-abbrev invariant-loop : tie.invariant-loop
+abbrev invariant-loop : tie.invariant-loop-i
 invariant-loop count bay entries n₀ i₀ n i = (i ≤ count) × (n ≤ i) × (n + used bay (drop i (take count entries)) ≡ used bay (take count entries))
 
-abbrev decreases-loop : tie.decreases-loop
+abbrev decreases-loop : tie.decreases-loop-i
 decreases-loop count bay entries n₀ i₀ n i = count - i
 
-loop-holds : tie.Need-loop-init invariant-loop decreases-loop
+loop-holds : tie.Need-loop-i-init invariant-loop decreases-loop
 loop-holds c = (omega arith, omega arith, omega arith)
 
-long : (c : lts.Start (one-reads.Asked, one-reads.Learnt) reads.Pre reads.Post invariant-loop decreases-loop) → c.args.count ≤ length c.args.t1
-long c = let g : length c.args.t1 ≡ 256 = c.well-formed.0.1.0.1 in omega arith
+long : (c : lts.Start (one-reads.Asked, one-reads.Learnt) reads.Pre reads.Post invariant-loop decreases-loop) → c.args.count ≤ length c.args.entries
+long c = let g : length c.args.entries ≡ 256 = c.well_formed.0.1.0.1 in omega arith
 
-add_n : tie.Need-overflow-add-n invariant-loop decreases-loop
-add_n c = let o : c.one.result ≤ 1 = rw c.one.ensures (one_most _ _) in omega arith
+add_n : tie.Need-overflow_add-n invariant-loop decreases-loop
+add_n c = let o : c.one-n.result ≤ 1 = rw c.one-n.ensures (one_most _ _) in omega arith
 
-loop_again : tie.Need-loop-preserved invariant-loop decreases-loop
+loop_again : tie.Need-loop-i-preserved invariant-loop decreases-loop
 loop_again c =
-    let o : c.one.result ≤ 1 = rw c.one.ensures (one_most _ _) in (
+    let o : c.one-n.result ≤ 1 = rw c.one-n.ensures (one_most _ _) in (
       omega arith,
       omega arith,
-      rw c.one.ensures
+      rw c.one-n.ensures
           (counts _ _ (long c.before.before.before.before) _ none _ _ (omega arith) (omega arith)),
     )
 
 returns : tie.Need-returns invariant-loop decreases-loop
-returns c = counted _ _ (long c.before.before) _ none _ _ c.before.loop.invariant.2 c.loop-test.false
+returns c = counted _ _ (long c.before.before) _ none _ _ c.before.loop-i.invariant.2 c.loop-i-test.false
 
 pub used_spec : {M : Type 1} → statement M
 used_spec =

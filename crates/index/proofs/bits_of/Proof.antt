@@ -14,16 +14,16 @@ no_nan nan e = absurd (true≢false (sym e))
 no_nan (inf s) e = tt
 no_nan (fin s m d) e = tt
 
-float-to-bits-result : tie.Need-float-to-bits-result
-float-to-bits-result c = no_nan _ c.if1.true
+float-to-bits-result : tie.Need-float_to_bits-result
+float-to-bits-result c = no_nan _ c.if-x.true
 
-returns : tie.Need-returns
+returns : tie.Need-returns-then-x
 unfolding bits_of
-returns c = rw c.if1.true
+returns c = rw c.if-x.true
 
-returns-2 : tie.Need-returns-2
+returns-2 : tie.Need-returns-else-x
 unfolding bits_of
-returns-2 c = rw c.if1.false
+returns-2 c = rw c.if-x.false
 
 pub bits_of_spec : {M : Type 1} → statement M
 bits_of_spec = tie.close (tie.spec float-to-bits-result returns returns-2)

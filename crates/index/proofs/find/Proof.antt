@@ -4,7 +4,7 @@ use borrow.Author.Rules.{rules}
 use Rattle.index.proofs.find.Statement.{statement}
 use Rattle.index.proofs.find.Tie as tie
 
-find-indexed-requires : tie.Need-find-indexed-requires
+find-indexed-requires : tie.Need-find_indexed-requires
 find-indexed-requires c κs =
     let p = c.before.before.before.requires in
     ((p.0.ok, p.1), (p.0.long, p.0.marks (omega arith)))

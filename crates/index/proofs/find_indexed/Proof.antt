@@ -5,22 +5,22 @@ use borrow.Author.Rules.{rules}
 use Rattle.index.proofs.find_indexed.Statement.{statement}
 use Rattle.index.proofs.find_indexed.Tie as tie
 
-find-marked-requires : tie.Need-find-marked-requires
+find-marked-requires : tie.Need-find_marked-requires
 find-marked-requires c κs =
-    let cut : tie.After-cut-at4 = search in
-    let row : tie.After-strip-of2 = search in
+    let cut : tie.After-cut_at-4 = search in
+    let row : tie.After-strip_of-e = search in
     let out = row.before in
-    let cut2 : tie.After-cut-at2 = search in
-    let column : tie.After-strip-of = search in
-    let p = column.before.before.before.pre in (
+    let cut2 : tie.After-cut_at-2 = search in
+    let column : tie.After-strip_of-c = search in
+    let p = column.before.before.before.requires in (
       p.0,
       (
         (p.1.0, omega arith),
         (
-          in_column _ _ _ _ p.1.1 _ column.strip-of.ensures.0 cut2.before.cut_at.ensures cut2.cut-at2.ensures
-              out.before.within.ensures out.if1.left,
-          in_row _ _ _ _ p.1.1 _ row.strip-of2.ensures.0 cut.before.cut-at3.ensures cut.cut-at4.ensures c.before.within2.ensures
-              c.if2.false,
+          in_column _ _ _ _ p.1.1 _ column.strip_of-c.ensures.0 cut2.before.cut_at.ensures cut2.cut_at-2.ensures
+              out.before.within.ensures out.if-not-within.false,
+          in_row _ _ _ _ p.1.1 _ row.strip_of-e.ensures.0 cut.before.cut_at-3.ensures cut.cut_at-4.ensures c.before.within-2.ensures
+              c.if-not-within-2.false,
         ),
       ),
     )

@@ -7,18 +7,18 @@ use Rattle.index.proofs.is_guessed.Tie as tie
 returns : tie.Need-returns
 unfolding is_guessed
 returns c =
-    let column : tie.After-within = search in
-    let at-cut-at : tie.After-cut-at = search in
+    let column : tie.After-within-in_column = search in
+    let at-cut-at : tie.After-cut_at = search in
     let row = at-cut-at.before in
     rw (
-      c.within2.ensures,
-      c.before.cut-at4.ensures,
-      c.before.before.cut-at3.ensures,
-      column.within.ensures,
-      column.before.cut-at2.ensures,
+      c.within-in_row.ensures,
+      c.before.cut_at-4.ensures,
+      c.before.before.cut_at-3.ensures,
+      column.within-in_column.ensures,
+      column.before.cut_at-2.ensures,
       at-cut-at.cut_at.ensures,
-      row.strip-of2.ensures.1,
-      row.before.strip-of.ensures.1,
+      row.strip_of-e.ensures.1,
+      row.before.strip_of-c.ensures.1,
     )
 
 pub is_guessed_spec : {M : Type 1} → statement M

@@ -7,15 +7,15 @@ use Rattle.index.proofs.spot_in.Tie as tie
 returns : tie.Need-returns
 unfolding covers
 returns c =
-    let z : tie.After-edge4 = search in
-    let x : tie.After-edge2 = search in
+    let z : tie.After-edge-z_hi = search in
+    let x : tie.After-edge-x_hi = search in
     simp (
-      ← x.before.edge.ensures,
-      ← x.edge2.ensures,
-      ← z.before.edge3.ensures,
-      ← z.edge4.ensures,
+      ← x.before.edge-x_lo.ensures,
+      ← x.edge-x_hi.ensures,
+      ← z.before.edge-z_lo.ensures,
+      ← z.edge-z_hi.ensures,
       ← c.before.within.ensures,
-      ← c.within2.ensures,
+      ← c.within-2.ensures,
     )
 
 pub spot_in_spec : {M : Type 1} → statement M

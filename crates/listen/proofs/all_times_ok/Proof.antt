@@ -5,7 +5,7 @@ use Rattle.listen.proofs.all_times_ok.Statement.{statement}
 use Rattle.listen.proofs.all_times_ok.Tie as tie
 
 returns : tie.Need-returns
-returns c = times_and _ _ _ c.before.times-ok.ensures c.times-ok2.ensures
+returns c = times_and _ _ _ c.before.times_ok-ok.ensures c.times_ok.ensures
 
 pub all_times_ok_spec : {M : Type 1} → statement M
 all_times_ok_spec = tie.close (tie.spec (λ c κs. search rules) (λ c κs. search rules) returns)

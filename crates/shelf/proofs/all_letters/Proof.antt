@@ -10,43 +10,43 @@ use Rattle.shelf.proofs.Walks.{no_letter, letter, letters_end}
 use Rattle.shelf.proofs.all_letters.Statement.{statement}
 use Rattle.shelf.proofs.all_letters.Tie as tie
 
-abbrev invariant-loop : tie.invariant-loop
+abbrev invariant-loop : tie.invariant-loop-i
 invariant-loop name i₀ i = (i ≤ length name) × (letters (drop i name) ≡ letters name)
 
-abbrev decreases-loop : tie.decreases-loop
+abbrev decreases-loop : tie.decreases-loop-i
 decreases-loop name i₀ i = length name - i
 
-loop-holds : tie.Need-loop-init invariant-loop decreases-loop
+loop-holds : tie.Need-loop-i-init invariant-loop decreases-loop
 loop-holds c = (omega arith, refl)
 
-shared-slice-read-is-letter : tie.Need-shared-slice-read-is-letter invariant-loop decreases-loop
+shared-slice-read-is-letter : tie.Need-bounds-name-i invariant-loop decreases-loop
 shared-slice-read-is-letter c = omega arith
 
-is-letter-requires : tie.Need-is-letter-requires invariant-loop decreases-loop
+is-letter-requires : tie.Need-is_letter-requires invariant-loop decreases-loop
 is-letter-requires c κs = search rules
 
-returns : tie.Need-returns invariant-loop decreases-loop
+returns : tie.Need-returns-then-not-is_letter invariant-loop decreases-loop
 returns c =
-    let at-loop-test : tie.In-loop invariant-loop decreases-loop = search in
-    no_letter _ _ at-loop-test.before.loop.inv.1 at-loop-test.loop-test.taken
-    (sym c.before.is-letter.ensures ∙ not-true _ c.if1.true)
+    let at-loop-test : tie.In-loop-i invariant-loop decreases-loop = search in
+    no_letter _ _ at-loop-test.before.loop-i.invariant.1 at-loop-test.loop-i-test.true
+    (sym c.before.is_letter.ensures ∙ c.if-not-is_letter.true)
 
-add-i : tie.Need-overflow-add-i invariant-loop decreases-loop
+add-i : tie.Need-overflow_add-i invariant-loop decreases-loop
 add-i c = omega arith
 
-loop-less : tie.Need-loop-smaller invariant-loop decreases-loop
+loop-less : tie.Need-loop-i-smaller invariant-loop decreases-loop
 loop-less c = omega arith
 
-loop_again : tie.Need-loop-preserved invariant-loop decreases-loop
+loop_again : tie.Need-loop-i-preserved invariant-loop decreases-loop
 loop_again c =
-    let at-loop-test : tie.In-loop invariant-loop decreases-loop = search in (
+    let at-loop-test : tie.In-loop-i invariant-loop decreases-loop = search in (
       omega arith,
-      letter _ _ at-loop-test.before.loop.inv.1 at-loop-test.loop-test.taken
-          (sym c.before.is-letter.ensures ∙ not-false _ c.if1.false),
+      letter _ _ at-loop-test.before.loop-i.invariant.1 at-loop-test.loop-i-test.true
+          (sym c.before.is_letter.ensures ∙ c.if-not-is_letter.false),
     )
 
-returns-2 : tie.Need-returns-2 invariant-loop decreases-loop
-returns-2 c = letters_end _ _ c.before.loop.invariant.1 c.loop-test.false
+returns-2 : tie.Need-returns invariant-loop decreases-loop
+returns-2 c = letters_end _ _ c.before.loop-i.invariant.1 c.loop-i-test.false
 
 pub all_letters_spec : {M : Type 1} → statement M
 all_letters_spec =

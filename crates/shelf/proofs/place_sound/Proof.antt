@@ -8,53 +8,53 @@ use borrow.Author.Rules.{rules}
 use Rattle.shelf.proofs.place_sound.Statement.{statement}
 use Rattle.shelf.proofs.place_sound.Tie as tie
 
-name-sound-requires : tie.Need-name-sound-requires
+name-sound-requires : tie.Need-name_sound-requires
 name-sound-requires c κs = search rules
 
-returns : tie.Need-returns
+returns : tie.Need-returns-then-not-name_sound
 unfolding sound_place
-returns c = rw (sym c.before.name-sound.ensures ∙ not-true _ c.if1.true)
+returns c = rw (sym c.before.name_sound.ensures ∙ c.if-not-name_sound.true)
 
-is-same-requires : tie.Need-is-same-requires
+is-same-requires : tie.Need-is_same-requires
 is-same-requires c κs = search rules
 
-returns-2 : tie.Need-returns-2
+returns-2 : tie.Need-returns-then-is_same
 unfolding sound_place
 returns-2 c =
-    let at-if1 : tie.Else1 = search in
-    rw (sym at-if1.before.name-sound.ensures ∙ not-false _ at-if1.if1.left, sym c.before.is_same.ensures ∙ c.if2.true)
+    let at-if1 : tie.Else-not-name_sound = search in
+    rw (sym at-if1.before.name_sound.ensures ∙ at-if1.if-not-name_sound.false, sym c.before.is_same.ensures ∙ c.if-is_same.true)
 
-state-ok-requires : tie.Need-state-ok-requires
+state-ok-requires : tie.Need-state_ok-requires
 state-ok-requires c κs = search rules
 
-returns-3 : tie.Need-returns-3
+returns-3 : tie.Need-returns-then-not-state_ok
 unfolding sound_place
 returns-3 c =
-    let at-if2 : tie.Else2 = search in
-    let at-if1 : tie.Else1 = search in
+    let at-if2 : tie.Else-is_same = search in
+    let at-if1 : tie.Else-not-name_sound = search in
     rw (
-      sym at-if1.before.name-sound.ensures ∙ not-false _ at-if1.if1.left,
+      sym at-if1.before.name_sound.ensures ∙ at-if1.if-not-name_sound.false,
       sym
-          at-if2.before.is_same.ensures ∙ at-if2.if2.left,
-      sym c.before.state-ok.ensures ∙ not-true _ c.if3.true,
+          at-if2.before.is_same.ensures ∙ at-if2.if-is_same.false,
+      sym c.before.state_ok.ensures ∙ c.if-not-state_ok.true,
     )
 
-find-from-requires : tie.Need-find-from-requires
+find-from-requires : tie.Need-find_from-requires
 find-from-requires c κs = search rules
 
-returns-4 : tie.Need-returns-4
+returns-4 : tie.Need-returns
 unfolding sound_place
 returns-4 c =
     let at-if3 = c.before in
-    let at-if2 : tie.Else2 = search in
-    let at-if1 : tie.Else1 = search in
+    let at-if2 : tie.Else-is_same = search in
+    let at-if1 : tie.Else-not-name_sound = search in
     rw (
-      sym at-if1.before.name-sound.ensures ∙ not-false _ at-if1.if1.left,
+      sym at-if1.before.name_sound.ensures ∙ at-if1.if-not-name_sound.false,
       sym
-          at-if2.before.is_same.ensures ∙ at-if2.if2.left,
-      sym at-if3.before.state-ok.ensures ∙ not-false _ at-if3.if3.false,
+          at-if2.before.is_same.ensures ∙ at-if2.if-is_same.false,
+      sym at-if3.before.state_ok.ensures ∙ at-if3.if-not-state_ok.false,
     )
-    (later (omega arith) c.find-from.ensures)
+    (later (omega arith) c.find_from.ensures)
 
 pub place_sound_spec : {M : Type 1} → statement M
 place_sound_spec =

@@ -4,16 +4,16 @@ use Rattle.board.proofs.Lists.{refused, entered, room}
 use Rattle.board.proofs.Board.enter.Statement.{statement}
 use Rattle.board.proofs.Board.enter.Tie as tie
 
-returns : tie.Need-returns
-returns c = refused _ _ _ (search rules) c.before.answer-of.ensures c.if1.true
+returns : tie.Need-returns-then-answer-ne0
+returns c = refused _ _ _ (search rules) c.before.answer_of-answer.ensures c.if-answer-ne0.true
 
-with-entry-requires : tie.Need-with-entry-requires
+with-entry-requires : tie.Need-with_entry-requires
 with-entry-requires c κs = room c.before.before.before.before.args.self _
-    c.before.before.shown.ensures c.before.answer-of.ensures c.if1.false
+    c.before.before.shown.ensures c.before.answer_of-answer.ensures c.if-answer-ne0.false
 
-returns-2 : tie.Need-returns-2
-returns-2 c = entered _ _ (search rules) c.before.before.answer-of.ensures c.before.if1.false
-    c.with-entry.ensures
+returns-2 : tie.Need-returns
+returns-2 c = entered _ _ (search rules) c.before.before.answer_of-answer.ensures c.before.if-answer-ne0.false
+    c.with_entry.ensures
 
 pub enter_spec : {M : Type 1} → statement M
 enter_spec =

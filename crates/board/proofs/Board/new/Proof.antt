@@ -8,13 +8,13 @@ use Rattle.board.proofs.Board.new.Lts as lts
 use Rattle.board.proofs.empty.Reads as empty-reads
 use Rattle.number.proofs.within.Reads as within-reads
 
-returns : tie.Need-returns
+returns : tie.Need-returns-then-within
 unfolding new_of of_bits round neg
-returns c = simp (← c.before.before.within2.ensures, ← c.before.before.before.within.ensures, c.before.if1.true, c.empty.ensures)
+returns c = simp (← c.before.before.within-2.ensures, ← c.before.before.before.within.ensures, c.before.if-within.true, c.empty.ensures)
 
-returns-2 : tie.Need-returns-2
+returns-2 : tie.Need-returns
 unfolding new_of of_bits round neg
-returns-2 c = simp (← c.before.before.within2.ensures, ← c.before.before.before.within.ensures, c.before.if1.false, c.empty2.ensures)
+returns-2 c = simp (← c.before.before.within-2.ensures, ← c.before.before.before.within.ensures, c.before.if-within.false, c.empty-2.ensures)
 
 pub new_spec : {M : Type 1} → statement M
 new_spec =

@@ -8,7 +8,7 @@ use Rattle.board.proofs.Board.with_entry.Lts as lts
 use Rattle.board.proofs.insert_entry.Reads as insert-entry-reads
 
 returns : tie.Need-returns
-returns c = one_more _ _ c.before.before.requires.0 c.insert_entry.ensures
+returns c = one_more _ _ c.before.before.requires.0 c.insert_entry-out.ensures
 
 pub with_entry_spec : {M : Type 1} → statement M
 with_entry_spec = tie.close (tie.spec (λ c κs. search rules) (λ c. search rules) returns)

@@ -6,27 +6,27 @@ use borrow.Author.Rules.{rules}
 use Rattle.shelf.proofs.Shelf.look_up.Statement.{statement}
 use Rattle.shelf.proofs.Shelf.look_up.Tie as tie
 
-find-from-requires : tie.Need-find-from-requires
+find-from-requires : tie.Need-find_from-at-requires
 find-from-requires c κs = search rules
 
-mul-p : tie.Need-overflow-mul-p
+mul-p : tie.Need-offset_bounds-places-at
 mul-p c = search rules
 
-array-copy-out-p : tie.Need-array-copy-out-p
+array-copy-out-p : tie.Need-bounds-places-at
 array-copy-out-p c = search rules
 
-returns : tie.Need-returns
+returns : tie.Need-returns-then-at-lt16
 unfolding given
 returns c =
-    let at-if1 : tie.Then1 = search in
-    sym (ap given (there at-if1.before.find-from.ensures _ at-if1.if1.taken))
+    let at-if1 : tie.Then-at-lt16 = search in
+    sym (ap given (there at-if1.before.find_from-at.ensures _ at-if1.if-at-lt16.true))
 
-zero-state-requires : tie.Need-zero-state-requires
+zero-state-requires : tie.Need-zero_state-requires
 zero-state-requires c κs = search rules
 
-returns-2 : tie.Need-returns-2
+returns-2 : tie.Need-returns
 unfolding given
-returns-2 c = rw (not_there c.before.before.find-from.ensures c.before.if1.false, c.zero-state.ensures)
+returns-2 c = rw (not_there c.before.before.find_from-at.ensures c.before.if-at-lt16.false, c.zero_state.ensures)
 
 pub look_up_spec : {M : Type 1} → statement M
 look_up_spec =

@@ -5,22 +5,22 @@ use borrow.Author.Rules.{rules}
 use Rattle.shelf.proofs.Shelf.replace.Statement.{statement}
 use Rattle.shelf.proofs.Shelf.replace.Tie as tie
 
-find-from-requires : tie.Need-find-from-requires
+find-from-requires : tie.Need-find_from-at-requires
 find-from-requires c κs = search rules
 
-mul-places : tie.Need-overflow-mul-places
+mul-places : tie.Need-offset_bounds-places-at
 mul-places c = search rules
 
-array-set-from-places : tie.Need-array-set-from-places
+array-set-from-places : tie.Need-bounds-places-at
 array-set-from-places c = search rules
 
-returns : tie.Need-returns
+returns : tie.Need-returns-then-at-lt16
 unfolding replaced
-returns c = rw (is_there c.before.find-from.ensures c.if1.true, put_there c.before.find-from.ensures _)
+returns c = rw (is_there c.before.find_from-at.ensures c.if-at-lt16.true, put_there c.before.find_from-at.ensures _)
 
-returns-2 : tie.Need-returns-2
+returns-2 : tie.Need-returns
 unfolding replaced
-returns-2 c = rw (is_not c.before.find-from.ensures c.if1.false)
+returns-2 c = rw (is_not c.before.find_from-at.ensures c.if-at-lt16.false)
 
 pub replace_spec : {M : Type 1} → statement M
 replace_spec =

@@ -7,45 +7,44 @@ use borrow.Author.Rules.{rules}
 use Rattle.shelf.proofs.Shelf.save.Statement.{statement}
 use Rattle.shelf.proofs.Shelf.save.Tie as tie
 
-name-ok-requires : tie.Need-name-ok-requires
+name-ok-requires : tie.Need-name_ok-requires
 name-ok-requires c κs = search rules
 
-returns : tie.Need-returns
+returns : tie.Need-returns-then-not-name_ok
 unfolding save_of
-returns c = rw (sym c.before.name-ok.ensures ∙ not-true _ c.if1.true)
+returns c = rw (sym c.before.name_ok.ensures ∙ c.if-not-name_ok.true)
 
-state-ok-requires : tie.Need-state-ok-requires
+state-ok-requires : tie.Need-state_ok-requires
 state-ok-requires c κs = search rules
 
-returns-2 : tie.Need-returns-2
+returns-2 : tie.Need-returns-then-not-state_ok
 unfolding save_of
 returns-2 c =
-    let at-if1 : tie.Else1 = search in
+    let at-if1 : tie.Else-not-name_ok = search in
     rw (
-      sym at-if1.before.name-ok.ensures ∙ not-false _ at-if1.if1.left,
-      sym c.before.state-ok.ensures ∙ not-true _
-          c.if2.true,
+      sym at-if1.before.name_ok.ensures ∙ at-if1.if-not-name_ok.false,
+      sym c.before.state_ok.ensures ∙ c.if-not-state_ok.true,
     )
 
-pack-requires : tie.Need-pack-requires
+pack-requires : tie.Need-pack-key-requires
 pack-requires c κs =
-    let at-if1 : tie.Else1 = search in
-    name_short _ (sym at-if1.before.name-ok.ensures ∙ not-false _ at-if1.if1.left)
+    let at-if1 : tie.Else-not-name_ok = search in
+    name_short _ (sym at-if1.before.name_ok.ensures ∙ at-if1.if-not-name_ok.false)
 
 keep-requires : tie.Need-keep-requires
 keep-requires c κs = search rules
 
-returns-3 : tie.Need-returns-3
+returns-3 : tie.Need-returns
 unfolding save_of
 returns-3 c =
-    let at-if2 : tie.Else2 = search in
-    let at-if1 : tie.Else1 = search in
+    let at-if2 : tie.Else-not-state_ok = search in
+    let at-if1 : tie.Else-not-name_ok = search in
     rw (
-      sym at-if1.before.name-ok.ensures ∙ not-false _ at-if1.if1.left,
+      sym at-if1.before.name_ok.ensures ∙ at-if1.if-not-name_ok.false,
       sym
-          at-if2.before.state-ok.ensures ∙ not-false _ at-if2.if2.left,
+          at-if2.before.state_ok.ensures ∙ at-if2.if-not-state_ok.false,
       c.keep.ensures,
-      c.before.pack.ensures,
+      c.before.pack-key.ensures,
     )
 
 pub save_spec : {M : Type 1} → statement M
