@@ -9,11 +9,11 @@ use Rattle.course.specs.Sheet.{covers, course_of, plain_sample, surfaces, patche
 use Rattle.course.proofs.height_of.Statement.{statement}
 use Rattle.course.proofs.height_of.Tie as tie
 
-add-if1 : tie.Need-overflow-add-if1
+add-if1 : tie.Need-overflow_add-count
 add-if1 c = let h = accepted c.before.args.sheet.now c.before.requires.0.0 in omega
     (arith, h.few, h.bounded, c.before.requires.0.1.0, c.before.requires.0.1.1)
 
-patch-height-requires : tie.Need-patch-height-requires
+patch-height-requires : tie.Need-patch_height-requires
 patch-height-requires c κs =
     let s = c.before.before.args.sheet.now in
     let i = c.before.before.args.i in
@@ -21,16 +21,16 @@ patch-height-requires c κs =
     let f = first_from (covers s c.before.before.args.x c.before.before.args.z) c.before.before.args.n
     c.before.before.args.count in
     let l : surfaces s ≤ i = omega (arith, f, c.before.before.requires.1, c.before.before.requires.0.1.0) in
-    let u : i < surfaces s + patches s = omega (arith, c.before.before.requires.0.1.0, c.before.before.requires.0.1.1, c.if1.true) in
+    let u : i < surfaces s + patches s = omega (arith, c.before.before.requires.0.1.0, c.before.before.requires.0.1.1, c.if-i-count.true) in
     omega (arith, h.long, u)
 
-returns : tie.Need-returns
+returns : tie.Need-returns-then-i-count
 unfolding course_of
 returns c =
     let at_start_lem : tie.Start = search in
-    simp (← at_start_lem.pre.0.1.0, ← at_start_lem.pre.0.1.1, ← at_start_lem.pre.1, lt-ltb _ _ c.before.if1.true, ← c.patch-height.ensures)
+    simp (← at_start_lem.requires.0.1.0, ← at_start_lem.requires.0.1.1, ← at_start_lem.requires.1, lt-ltb _ _ c.before.if-i-count.true, ← c.patch_height.ensures)
 
-returns-2 : tie.Need-returns-2
+returns-2 : tie.Need-returns-else-i-count
 unfolding course_of plain_sample
 returns-2 c = simp (
   ← c0,
@@ -38,7 +38,7 @@ returns-2 c = simp (
   ← c.before.before.requires.0.1.1,
   ← c.before.before.requires.1,
   le-ltb _ _
-      c.if1.false,
+      c.if-i-count.false,
 )
 
 pub height_of_spec : {M : Type 1} → statement M

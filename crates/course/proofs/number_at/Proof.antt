@@ -5,7 +5,7 @@ use borrow.Author.Rules.{rules}
 use Rattle.course.proofs.number_at.Statement.{statement}
 use Rattle.course.proofs.number_at.Tie as tie
 
-float-from-bits-result : tie.Need-float-from-bits-result
+float-from-bits-result : tie.Need-float_from_bits-result
 float-from-bits-result c = rw c.whole.ensures c.before.before.requires.1.1
 
 returns : tie.Need-returns

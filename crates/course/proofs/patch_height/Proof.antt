@@ -6,7 +6,7 @@ use Rattle.course.proofs.patch_height.Tie as tie
 
 returns : tie.Need-returns
 unfolding patch_sample
-returns c = simp (← c.before.before.double.ensures, ← c.before.double2.ensures, ← c.double3.ensures)
+returns c = simp (← c.before.before.double-a.ensures, ← c.before.double-b.ensures, ← c.double.ensures)
 
 pub patch_height_spec : {M : Type 1} → statement M
 patch_height_spec = tie.close (tie.spec (λ c κs. search rules) (λ c κs. search rules) (λ c κs. search rules) returns)

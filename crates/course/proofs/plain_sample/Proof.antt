@@ -6,9 +6,9 @@ use Rattle.course.proofs.plain_sample.Tie as tie
 
 returns : tie.Need-returns
 unfolding plain_sample
-returns c = simp (← c.surface-at.ensures, ← c0, ← c1)
+returns c = simp (← c.surface_at-surface.ensures, ← c0, ← c1)
 
-surface-at-requires : tie.Need-surface-at-requires
+surface-at-requires : tie.Need-surface_at-surface-requires
 surface-at-requires c κs = c.before.requires
 
 pub plain_sample_spec : {M : Type 1} → statement M

@@ -9,11 +9,11 @@ use Rattle.course.proofs.Passed.{surface_passed}
 use Rattle.course.proofs.sample_of.Statement.{statement}
 use Rattle.course.proofs.sample_of.Tie as tie
 
-add-if1 : tie.Need-overflow-add-if1
+add-if1 : tie.Need-overflow_add-count
 add-if1 c = let h = accepted c.before.args.sheet.now c.before.requires.0.0 in omega
     (arith, h.few, h.bounded, c.before.requires.0.1.0, c.before.requires.0.1.1)
 
-patch-sample-requires : tie.Need-patch-sample-requires
+patch-sample-requires : tie.Need-patch_sample-requires
 patch-sample-requires c κs =
     let s = c.before.before.args.sheet.now in
     let i = c.before.before.args.i in
@@ -21,26 +21,26 @@ patch-sample-requires c κs =
     let f = first_from (covers s c.before.before.args.x c.before.before.args.z) c.before.before.args.n
     c.before.before.args.count in
     let l : surfaces s ≤ i = omega (arith, f, c.before.before.requires.1, c.before.before.requires.0.1.0) in
-    let u : i < surfaces s + patches s = omega (arith, c.before.before.requires.0.1.0, c.before.before.requires.0.1.1, c.if1.true) in
+    let u : i < surfaces s + patches s = omega (arith, c.before.before.requires.0.1.0, c.before.before.requires.0.1.1, c.if-i-count.true) in
     let p = patch_passed s i c.before.before.requires.0.0 l u in
     let b = number_below s i p in
     ((omega (arith, h.long, u), omega (arith, h.long, b)), (p, surface_passed s _ c.before.before.requires.0.0 b))
 
-plain-sample-requires : tie.Need-plain-sample-requires
+plain-sample-requires : tie.Need-plain_sample-requires
 plain-sample-requires c κs = let h = accepted c.before.before.args.sheet.now c.before.before.requires.0.0 in
     (omega (arith, h.long, h.some), surface_passed _ 0 c.before.before.requires.0.0 h.some)
 
-returns : tie.Need-returns
+returns : tie.Need-returns-then-i-count
 unfolding course_of
 returns c =
     let at_start_lem : tie.Start = search in
-    simp (← at_start_lem.pre.0.1.0, ← at_start_lem.pre.0.1.1, ← at_start_lem.pre.1, lt-ltb _ _ c.before.if1.true, ← c.patch-sample.ensures)
+    simp (← at_start_lem.requires.0.1.0, ← at_start_lem.requires.0.1.1, ← at_start_lem.requires.1, lt-ltb _ _ c.before.if-i-count.true, ← c.patch_sample.ensures)
 
-returns-2 : tie.Need-returns-2
+returns-2 : tie.Need-returns-else-i-count
 unfolding course_of
 returns-2 c =
     let at_start_lem : tie.Start = search in
-    simp (← at_start_lem.pre.0.1.0, ← at_start_lem.pre.0.1.1, ← at_start_lem.pre.1, le-ltb _ _ c.before.if1.false, ← c.plain-sample.ensures)
+    simp (← at_start_lem.requires.0.1.0, ← at_start_lem.requires.0.1.1, ← at_start_lem.requires.1, le-ltb _ _ c.before.if-i-count.false, ← c.plain_sample.ensures)
 
 pub sample_of_spec : {M : Type 1} → statement M
 sample_of_spec = tie.close (tie.spec add-if1 patch-sample-requires plain-sample-requires returns returns-2)

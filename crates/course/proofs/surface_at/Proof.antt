@@ -9,45 +9,45 @@ use Rattle.course.proofs.surface_at.Tie as tie
 returns : tie.Need-returns
 unfolding surface_of
 returns c =
-    let at-number-at : tie.After-number-at = search in
-    let at-whole2 : tie.After-whole2 = search in
+    let at-number-at : tie.After-number_at = search in
+    let at-whole2 : tie.After-whole-2 = search in
     let at-whole : tie.After-whole = search in
     simp (
       ← at-whole.whole.ensures,
       ← at-whole2.before.before.double.ensures,
-      ← at-whole2.before.restitution-of.ensures,
-      ← at-whole2.whole2.ensures,
-      ← at-number-at.before.before.double2.ensures,
-      ← at-number-at.before.law-of.ensures,
+      ← at-whole2.before.restitution_of-restitution.ensures,
+      ← at-whole2.whole-2.ensures,
+      ← at-number-at.before.before.double-2.ensures,
+      ← at-number-at.before.law_of-roll_law.ensures,
       ← at-number-at.number_at.ensures,
-      ← c.before.before.number-at2.ensures,
-      ← c.before.number-at3.ensures,
-      ← c.number-at4.ensures,
+      ← c.before.before.number_at-2.ensures,
+      ← c.before.number_at-3.ensures,
+      ← c.number_at-4.ensures,
     )
 
-number-at-requires : tie.Need-number-at-requires
+number-at-requires : tie.Need-number_at-requires
 number-at-requires c κs =
-    let at-shared-slice-known : tie.After-shared-slice-known = search in
+    let at-shared-slice-known : tie.After-shared_slice_known-1 = search in
     let at_start_lem = at-shared-slice-known.before in
-    (at_start_lem.pre.0, (omega arith, surface_2 _ _ at_start_lem.pre.1))
+    (at_start_lem.requires.0, (omega arith, surface_2 _ _ at_start_lem.requires.1))
 
-number-at-requires-2 : tie.Need-number-at-requires-2
+number-at-requires-2 : tie.Need-number_at-requires-2
 number-at-requires-2 c κs =
     let at-whole : tie.After-whole = search in
     let at_start_lem : tie.Start = search in
-    (at_start_lem.pre.0, (omega arith, surface_3 _ _ at_start_lem.pre.1))
+    (at_start_lem.requires.0, (omega arith, surface_3 _ _ at_start_lem.requires.1))
 
-number-at-requires-3 : tie.Need-number-at-requires-3
+number-at-requires-3 : tie.Need-number_at-requires-3
 number-at-requires-3 c κs =
     let at-double : tie.After-double = search in
     let at_start_lem : tie.Start = search in
-    (at_start_lem.pre.0, (omega arith, surface_6 _ _ at_start_lem.pre.1))
+    (at_start_lem.requires.0, (omega arith, surface_6 _ _ at_start_lem.requires.1))
 
-number-at-requires-4 : tie.Need-number-at-requires-4
+number-at-requires-4 : tie.Need-number_at-requires-4
 number-at-requires-4 c κs =
-    let at-restitution-of : tie.After-restitution-of = search in
+    let at-restitution-of : tie.After-restitution_of-restitution = search in
     let at_start_lem : tie.Start = search in
-    (at_start_lem.pre.0, (omega arith, surface_7 _ _ at_start_lem.pre.1))
+    (at_start_lem.requires.0, (omega arith, surface_7 _ _ at_start_lem.requires.1))
 
 first-whole : tie.Need-whole-requires
 first-whole c κs = (c.before.requires.0, omega arith)
@@ -58,12 +58,12 @@ first-double c κs = (c.before.before.requires.0, omega arith)
 second-whole : tie.Need-whole-requires-2
 second-whole c κs =
     let at_start_lem : tie.Start = search in
-    (at_start_lem.pre.0, omega arith)
+    (at_start_lem.requires.0, omega arith)
 
 second-double : tie.Need-double-requires-2
 second-double c κs =
     let at_start_lem : tie.Start = search in
-    (at_start_lem.pre.0, omega arith)
+    (at_start_lem.requires.0, omega arith)
 
 pub surface_at_spec : {M : Type 1} → statement M
 surface_at_spec =

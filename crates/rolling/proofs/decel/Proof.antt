@@ -5,7 +5,7 @@ use Rattle.rolling.proofs.decel.Tie as tie
 
 returns : tie.Need-returns
 unfolding of_bits round
-returns c = simp (← c.speed-factor.ensures)
+returns c = simp (← c.speed_factor.ensures)
 
 pub decel_spec : {M : Type 1} → statement M
 decel_spec = tie.close (tie.spec (λ c κs. tt) returns)

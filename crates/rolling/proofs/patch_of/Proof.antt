@@ -6,7 +6,7 @@ use Rattle.rolling.proofs.patch_of.Tie as tie
 
 returns : tie.Need-returns
 unfolding patch_of of_bits round
-returns c = simp (← c.before.before.tangential-gravity.ensures, ← c.before.pivot-accel-of.ensures)
+returns c = simp (← c.before.before.tangential_gravity-g_t.ensures, ← c.before.pivot_accel_of-pivot_accel.ensures)
 
 pub patch_of_spec : {M : Type 1} → statement M
 patch_of_spec = tie.close (tie.spec (λ c κs. tt) (λ c κs. tt) returns)

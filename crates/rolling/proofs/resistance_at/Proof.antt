@@ -10,7 +10,7 @@ returns c = c.resistance.ensures
 
 resistance-requires : tie.Need-resistance-requires
 unfolding decel_of roll_patch_of rolling_friction of_bits round
-resistance-requires c κs = (c.before.before.length.ensures, c.decel.ensures)
+resistance-requires c κs = (c.before.before.length-v.ensures, c.decel-d.ensures)
 
 pub resistance_at_spec : {M : Type 1} → statement M
 resistance_at_spec = tie.close (tie.spec (λ c κs. tt) (λ c κs. tt) resistance-requires returns)

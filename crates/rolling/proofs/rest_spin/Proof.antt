@@ -6,8 +6,8 @@ use Rattle.rolling.proofs.rest_spin.Tie as tie
 returns : tie.Need-returns
 unfolding rest_spin roll_patch_of
 returns c =
-    let at-scale : tie.After-scale = search in
-    simp (← at-scale.scale.ensures, ← c.before.before.scale2.ensures, ← c.before.add.ensures, ← c.saturate-pivot.ensures)
+    let at-scale : tie.After-scale-spin_n = search in
+    simp (← at-scale.scale-spin_n.ensures, ← c.before.before.scale.ensures, ← c.before.add.ensures, ← c.saturate_pivot.ensures)
 
 pub rest_spin_spec : {M : Type 1} → statement M
 rest_spin_spec = tie.close (tie.spec (λ c κs. tt) (λ c κs. tt) (λ c κs. tt) (λ c κs. tt) returns)

@@ -6,11 +6,11 @@ use Rattle.rolling.proofs.rolled_spin.Tie as tie
 returns : tie.Need-returns
 unfolding rolled_spin roll_patch_of
 returns c =
-    let at-scale : tie.After-scale = search in
+    let at-scale : tie.After-scale-spin_n = search in
     simp (
-      ← at-scale.before.before.saturate-pivot.ensures,
+      ← at-scale.before.before.saturate_pivot.ensures,
       ← at-scale.before.dot.ensures,
-      ← at-scale.scale.ensures,
+      ← at-scale.scale-spin_n.ensures,
       ← c.before.before.cross.ensures,
       ← c.before.div.ensures,
       ← c.add.ensures,

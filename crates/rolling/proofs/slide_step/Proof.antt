@@ -7,10 +7,10 @@ use Rattle.rolling.proofs.slide_step.Tie as tie
 returns : tie.Need-returns
 unfolding slide_step patch_slip
 returns c =
-    let at-slid-to : tie.After-slid-to = search in
-    simp (← at-slid-to.before.slide-from.ensures, ← at-slid-to.slid-to.ensures)
+    let at-slid-to : tie.After-slid_to-out = search in
+    simp (← at-slid-to.before.slide_from-end.ensures, ← at-slid-to.slid_to-out.ensures)
 
-slide-from-requires : tie.Need-slide-from-requires
+slide-from-requires : tie.Need-slide_from-end-requires
 slide-from-requires c κs = unfold patch_slip in c.before.before.requires
 
 pub slide_step_spec : {M : Type 1} → statement M
