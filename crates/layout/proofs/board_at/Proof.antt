@@ -6,7 +6,7 @@ use Rattle.layout.proofs.board_at.Tie as tie
 
 returns : tie.Need-returns
 unfolding board_at
-returns c = rw (c.before.before.before.before.entries_at.ensures, c.before.before.nat-of.ensures)
+returns c = rw (c.entries_at-entries.ensures, c.nat_of-count.ensures)
 
 pub board_at_spec : {M : Type 1} → statement M
 board_at_spec =

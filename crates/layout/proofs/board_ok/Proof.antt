@@ -8,14 +8,14 @@ use Rattle.layout.proofs.board_ok.Tie as tie
 returns : tie.Need-returns
 unfolding board_ok of_bits round neg
 returns c =
-    let at-is-whole : tie.After-is-whole = search in
-    let at-within2 : tie.After-within2 = search in
+    let at-is-whole : tie.After-is_whole = search in
+    let at-within2 : tie.After-within-2 = search in
     rw (
-      at-within2.before.before.within.ensures,
-      at-within2.within2.ensures,
+      at-within2.within.ensures,
+      at-within2.within-2.ensures,
       at-is-whole.is_whole.ensures,
-      c.entries-ok.ensures,
-      c.before.nat-of.ensures,
+      c.entries_ok.ensures,
+      c.nat_of.ensures,
     )
 
 pub board_ok_spec : {M : Type 1} → statement M

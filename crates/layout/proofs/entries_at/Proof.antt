@@ -10,45 +10,45 @@ use Rattle.layout.specs.Layout.{entries_at}
 use Rattle.layout.proofs.entries_at.Statement.{statement}
 use Rattle.layout.proofs.entries_at.Tie as tie
 
-abbrev invariant-loop : tie.invariant-loop
+abbrev invariant-loop : tie.invariant-loop-i
 invariant-loop l out₀ i₀ out i = (i ≤ 256) × (length out ≡ 256) × (take i out ≡ entries_at l i)
 
-abbrev decreases-loop : tie.decreases-loop
+abbrev decreases-loop : tie.decreases-loop-i
 decreases-loop l out₀ i₀ out i = 256 - i
 
-loop-holds : tie.Need-loop-init invariant-loop decreases-loop
+loop-holds : tie.Need-loop-i-init invariant-loop decreases-loop
 unfolding entries_at
 loop-holds c = (omega arith, refl, refl)
 
-entry-at-requires : tie.Need-entry-at-requires invariant-loop decreases-loop
-entry-at-requires c κs = let h = c.before.before.before.requires in omega arith
+entry-at-requires : tie.Need-entry_at-requires invariant-loop decreases-loop
+entry-at-requires c κs = let h = c.requires in omega arith
 
-mul-out : tie.Need-overflow-mul-out invariant-loop decreases-loop
+mul-out : tie.Need-offset_bounds-out-i invariant-loop decreases-loop
 mul-out c = omega arith
 
-array-set-from-out : tie.Need-array-set-from-out invariant-loop decreases-loop
+array-set-from-out : tie.Need-bounds-out-i invariant-loop decreases-loop
 array-set-from-out c = omega arith
 
-loop-less : tie.Need-loop-smaller invariant-loop decreases-loop
+loop-less : tie.Need-loop-i-smaller invariant-loop decreases-loop
 loop-less c = omega arith
 
-loop_again : tie.Need-loop-preserved invariant-loop decreases-loop
+loop_again : tie.Need-loop-i-preserved invariant-loop decreases-loop
 unfolding entries_at
 loop_again c =
-    let at-loop : tie.At-loop invariant-loop decreases-loop = search in
-    let h : at-loop.loop.i < length at-loop.loop.out = omega arith in (
+    let at-loop : tie.At-loop-i invariant-loop decreases-loop = search in
+    let h : at-loop.loop-i.i < length at-loop.loop-i.out = omega arith in (
       omega arith,
       simp length-set (omega arith),
       rw
-          (add-one, take-suc-set _ _ _ h, at-loop.loop.inv.2, c.entry_at.ensures),
+          (add-one, take-suc-set _ _ _ h, at-loop.loop-i.invariant.2, c.entry_at.ensures),
     )
 
 returns : tie.Need-returns invariant-loop decreases-loop
 returns c =
     let at-loop = c.before in
-    let e : at-loop.loop.i ≡ 256 = omega arith in
-    let h : length at-loop.loop.out ≤ at-loop.loop.i = omega arith in
-    sym (take_all _ _ h) ∙ at-loop.loop.invariant.2 ∙ ap (entries_at _) e
+    let e : at-loop.loop-i.i ≡ 256 = omega arith in
+    let h : length at-loop.loop-i.out ≤ at-loop.loop-i.i = omega arith in
+    sym (take_all _ _ h) ∙ at-loop.loop-i.invariant.2 ∙ ap (entries_at _) e
 
 pub entries_at_spec : {M : Type 1} → statement M
 entries_at_spec =

@@ -8,16 +8,16 @@ use Rattle.layout.proofs.entry_ok.Tie as tie
 returns : tie.Need-returns
 unfolding entry_ok of_bits round neg
 returns c =
-    let at-is-whole4 : tie.After-is-whole4 = search in
-    let at-is-whole3 : tie.After-is-whole3 = search in
-    let at-is-whole2 : tie.After-is-whole2 = search in
+    let at-is-whole4 : tie.After-is_whole-4 = search in
+    let at-is-whole3 : tie.After-is_whole-3 = search in
+    let at-is-whole2 : tie.After-is_whole-2 = search in
     rw (
-      at-is-whole2.before.before.is_whole.ensures,
-      at-is-whole2.is-whole2.ensures,
-      at-is-whole3.is-whole3.ensures,
-      at-is-whole4.is-whole4.ensures,
-      c.before.before.within.ensures,
-      c.within2.ensures,
+      at-is-whole2.is_whole.ensures,
+      at-is-whole2.is_whole-2.ensures,
+      at-is-whole3.is_whole-3.ensures,
+      at-is-whole4.is_whole-4.ensures,
+      c.within.ensures,
+      c.within-2.ensures,
     )
 
 pub entry_ok_spec : {M : Type 1} → statement M

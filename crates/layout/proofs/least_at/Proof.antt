@@ -5,13 +5,13 @@ use Rattle.layout.specs.Layout.{least_at}
 use Rattle.layout.proofs.least_at.Statement.{statement}
 use Rattle.layout.proofs.least_at.Tie as tie
 
-returns : tie.Need-returns
+returns : tie.Need-returns-then-i-count
 unfolding least_at
-returns c = rw (lt-ltb _ _ c.if1.true)
+returns c = rw (lt-ltb _ _ c.if-i-count.true)
 
-returns-2 : tie.Need-returns-2
+returns-2 : tie.Need-returns
 unfolding least_at
-returns-2 c = rw (le-ltb _ _ c.if1.false)
+returns-2 c = rw (le-ltb _ _ c.if-i-count.false)
 
 pub least_at_spec : {M : Type 1} → statement M
 least_at_spec =

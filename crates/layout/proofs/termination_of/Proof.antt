@@ -4,21 +4,21 @@ use Rattle.layout.specs.Layout.{termination_of}
 use Rattle.layout.proofs.termination_of.Statement.{statement}
 use Rattle.layout.proofs.termination_of.Tie as tie
 
-returns : tie.Need-returns
+returns : tie.Need-returns-then-n-eq1
 unfolding termination_of
-returns c = rw (eq-eqb _ _ c.if1.true)
+returns c = rw (eq-eqb _ _ c.if-n-eq1.true)
 
-returns-2 : tie.Need-returns-2
+returns-2 : tie.Need-returns-then-n-eq2
 unfolding termination_of
-returns-2 c = rw (ne_eqb _ _ c.before.if1.false, eq-eqb _ _ c.if2.true)
+returns-2 c = rw (ne_eqb _ _ c.if-n-eq1.false, eq-eqb _ _ c.if-n-eq2.true)
 
-returns-3 : tie.Need-returns-3
+returns-3 : tie.Need-returns-then-n-eq3
 unfolding termination_of
-returns-3 c = rw (ne_eqb _ _ c.before.before.if1.false, ne_eqb _ _ c.before.if2.false, eq-eqb _ _ c.if3.true)
+returns-3 c = rw (ne_eqb _ _ c.if-n-eq1.false, ne_eqb _ _ c.if-n-eq2.false, eq-eqb _ _ c.if-n-eq3.true)
 
-returns-4 : tie.Need-returns-4
+returns-4 : tie.Need-returns
 unfolding termination_of
-returns-4 c = rw (ne_eqb _ _ c.before.before.if1.false, ne_eqb _ _ c.before.if2.false, ne_eqb _ _ c.if3.false)
+returns-4 c = rw (ne_eqb _ _ c.if-n-eq1.false, ne_eqb _ _ c.if-n-eq2.false, ne_eqb _ _ c.if-n-eq3.false)
 
 pub termination_of_spec : {M : Type 1} → statement M
 termination_of_spec =

@@ -8,9 +8,9 @@ use Rattle.layout.proofs.write_board.Tie as tie
 returns : tie.Need-returns
 unfolding board_fields written
 returns c =
-    let at-write-entries : tie.After-write-entries = search in
+    let at-write-entries : tie.After-write_entries = search in
     let at-put : tie.After-put = search in
-    rw (at-write-entries.write_entries.ensures, at-put.put.ensures, at-put.before.before.before.whole.ensures)
+    rw (at-write-entries.write_entries.ensures, at-put.put.ensures, at-put.whole.ensures)
 
 pub write_board_spec : {M : Type 1} → statement M
 write_board_spec =

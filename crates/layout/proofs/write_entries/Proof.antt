@@ -16,10 +16,10 @@ use Rattle.fields.proofs.Written.{take_written, length_written}
 use Rattle.layout.proofs.write_entries.Statement.{statement}
 use Rattle.layout.proofs.write_entries.Tie as tie
 
-abbrev invariant-loop : tie.invariant-loop
+abbrev invariant-loop : tie.invariant-loop-i
 invariant-loop out₀ entries i₀ out i = (i ≤ 256) × (length out ≡ board_length) × (take (start i) out ≡ take 3 out₀ ++ entries_fields entries i)
 
-abbrev decreases-loop : tie.decreases-loop
+abbrev decreases-loop : tie.decreases-loop-i
 decreases-loop out₀ entries i₀ out i = 256 - i
 
 -- one entry more
@@ -36,39 +36,39 @@ next l₀ l m es i b h t e =
           ∙ ap (λ (x : List Float). x ++ r) t ∙ append_assoc (take 3 l₀) (entries_fields es i) r ∙ rw add-one,
     )
 
-loop-holds : tie.Need-loop-init invariant-loop decreases-loop
+loop-holds : tie.Need-loop-i-init invariant-loop decreases-loop
 unfolding entries_fields
-loop-holds c = let h = c.before.requires in (omega arith, h, sym (append-nil _))
+loop-holds c = let h = c.requires in (omega arith, h, sym (append-nil _))
 
-mul-write-entry : tie.Need-overflow-mul-write-entry invariant-loop decreases-loop
+mul-write-entry : tie.Need-overflow_mul-i invariant-loop decreases-loop
 mul-write-entry c = omega arith
 
-array-copy-out-write-entry : tie.Need-array-copy-out-write-entry invariant-loop decreases-loop
+array-copy-out-write-entry : tie.Need-bounds-entries-i invariant-loop decreases-loop
 array-copy-out-write-entry c = omega arith
 
-write-entry-requires : tie.Need-write-entry-requires invariant-loop decreases-loop
+write-entry-requires : tie.Need-write_entry-requires invariant-loop decreases-loop
 write-entry-requires c κs = omega arith
 
-loop-less : tie.Need-loop-smaller invariant-loop decreases-loop
+loop-less : tie.Need-loop-i-smaller invariant-loop decreases-loop
 loop-less c = omega arith
 
-loop_again : tie.Need-loop-preserved invariant-loop decreases-loop
+loop_again : tie.Need-loop-i-preserved invariant-loop decreases-loop
 loop_again c =
-    let at-loop : tie.At-loop invariant-loop decreases-loop = search in
-    let a = at-loop.before.before.args in
-    let v = at-loop.loop.inv in
-    let b : at-loop.loop.i + 1 ≤ 256 = omega arith in
-    let n = next a.out.now _ _ a.t2 _ b v.1 v.2 c.before.before.write-entry.ensures in
+    let at-loop : tie.At-loop-i invariant-loop decreases-loop = search in
+    let a = at-loop.args in
+    let v = at-loop.loop-i.invariant in
+    let b : at-loop.loop-i.i + 1 ≤ 256 = omega arith in
+    let n = next a.out.now _ _ a.entries _ b v.1 v.2 c.write_entry.ensures in
     (b, n.0, n.1)
 
 returns : tie.Need-returns invariant-loop decreases-loop
 returns c =
     let at-loop = c.before in
-    let a = at-loop.before.before.args in
-    let e : at-loop.loop.i ≡ 256 = omega arith in
-    let h : length at-loop.loop.out ≤ board_length = omega arith in
+    let a = at-loop.args in
+    let e : at-loop.loop-i.i ≡ 256 = omega arith in
+    let h : length at-loop.loop-i.out ≤ board_length = omega arith in
     sym (take_all board_length _ h) ∙ subst
-    (λ (n : ℕ). take (start n) at-loop.loop.out ≡ take 3 a.out.now ++ entries_fields a.t2 n) e at-loop.loop.invariant.2
+    (λ (n : ℕ). take (start n) at-loop.loop-i.out ≡ take 3 a.out.now ++ entries_fields a.entries n) e at-loop.loop-i.invariant.2
 
 pub write_entries_spec : {M : Type 1} → statement M
 write_entries_spec =

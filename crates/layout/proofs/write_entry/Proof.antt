@@ -6,16 +6,16 @@ use Rattle.layout.proofs.write_entry.Tie as tie
 returns : tie.Need-returns
 returns c =
     let at-put : tie.After-put = search in
-    let at-whole4 : tie.After-whole4 = search in
-    let at-whole3 : tie.After-whole3 = search in
-    let at-whole2 : tie.After-whole2 = search in
+    let at-whole4 : tie.After-whole-4 = search in
+    let at-whole3 : tie.After-whole-3 = search in
+    let at-whole2 : tie.After-whole-2 = search in
     rw (
       at-put.put.ensures,
-      at-whole4.whole4.ensures,
-      at-whole3.whole3.ensures,
-      at-whole3.before.termination-number.ensures,
-      at-whole2.whole2.ensures,
-      at-whole2.before.before.whole.ensures,
+      at-whole4.whole-4.ensures,
+      at-whole3.whole-3.ensures,
+      at-whole3.termination_number.ensures,
+      at-whole2.whole-2.ensures,
+      at-whole2.whole.ensures,
     )
 
 pub write_entry_spec : {M : Type 1} → statement M

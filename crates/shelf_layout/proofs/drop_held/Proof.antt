@@ -6,7 +6,7 @@ use Rattle.shelf_layout.proofs.drop_held.Tie as tie
 returns : tie.Need-returns
 returns c =
     let at_drop : tie.After-drop = search in
-    rw (← at_drop.before.before.shelf-at.ensures, ← at_drop.drop.ensures) (search rules)
+    rw (← at_drop.shelf_at-s.ensures, ← at_drop.drop.ensures) (search rules)
 
 pub drop_held_spec : {M : Type 1} → statement M
 drop_held_spec =

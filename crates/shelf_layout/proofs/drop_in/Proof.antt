@@ -6,20 +6,20 @@ use borrow.Author.Rules.{rules}
 use Rattle.shelf_layout.proofs.drop_in.Statement.{statement}
 use Rattle.shelf_layout.proofs.drop_in.Tie as tie
 
-returns : tie.Need-returns
+returns : tie.Need-returns-then-shelf-ne368
 unfolding shelf_drop_door_of
-returns c = rw (ne_eqb _ _ c.if1.true)
+returns c = rw (ne_eqb _ _ c.if-shelf-ne368.true)
 
-returns-2 : tie.Need-returns-2
+returns-2 : tie.Need-returns-then-shelf_ok
 unfolding shelf_drop_door_of
 returns-2 c =
-    let at-if2 : tie.Then2 = search in
-    rw (eq-eqb _ _ at-if2.before.before.before.if1.left, sym at-if2.before.shelf-ok.ensures ∙ at-if2.if2.taken) (search rules)
+    let at-if2 : tie.Then-shelf_ok = search in
+    rw (eq-eqb _ _ at-if2.if-shelf-ne368.false, sym at-if2.shelf_ok.ensures ∙ at-if2.if-shelf_ok.true) (search rules)
 
-returns-3 : tie.Need-returns-3
+returns-3 : tie.Need-returns
 unfolding shelf_drop_door_of
 returns-3 c =
-    rw (eq-eqb _ _ c.before.before.before.if1.false, sym c.before.shelf-ok.ensures ∙ c.if2.false)
+    rw (eq-eqb _ _ c.if-shelf-ne368.false, sym c.shelf_ok.ensures ∙ c.if-shelf_ok.false)
 
 pub drop_in_spec : {M : Type 1} → statement M
 drop_in_spec =

@@ -11,45 +11,45 @@ use Rattle.shelf_layout.proofs.Laws.{read_on, read_end}
 use Rattle.shelf_layout.proofs.name_at.Statement.{statement}
 use Rattle.shelf_layout.proofs.name_at.Tie as tie
 
-abbrev invariant-loop : tie.invariant-loop
+abbrev invariant-loop : tie.invariant-loop-i
 invariant-loop l o out₀ i₀ out i = (i ≤ 13) × (length out ≡ 13) ×
     (take i out ++ map byte_of (take (13 - i) (drop (o + i) l)) ≡ map byte_of (take 13 (drop o l)))
 
-abbrev decreases-loop : tie.decreases-loop
+abbrev decreases-loop : tie.decreases-loop-i
 decreases-loop l o out₀ i₀ out i = 13 - i
 
-loop-holds : tie.Need-loop-init invariant-loop decreases-loop
+loop-holds : tie.Need-loop-i-init invariant-loop decreases-loop
 loop-holds c = (omega arith, refl, rw add-zero)
 
-add-byte-of : tie.Need-overflow-add-byte-of invariant-loop decreases-loop
+add-byte-of : tie.Need-overflow_add-o invariant-loop decreases-loop
 add-byte-of c = omega arith
 
-mul-byte-of : tie.Need-overflow-mul-byte-of invariant-loop decreases-loop
+mul-byte-of : tie.Need-offset_bounds-l-o invariant-loop decreases-loop
 mul-byte-of c = omega arith
 
-shared-slice-read-byte-of : tie.Need-shared-slice-read-byte-of invariant-loop decreases-loop
+shared-slice-read-byte-of : tie.Need-bounds-l-o invariant-loop decreases-loop
 shared-slice-read-byte-of c = omega arith
 
-array-write-out : tie.Need-array-write-out invariant-loop decreases-loop
+array-write-out : tie.Need-bounds-out-i invariant-loop decreases-loop
 array-write-out c = omega arith
 
-add-i : tie.Need-overflow-add-i invariant-loop decreases-loop
+add-i : tie.Need-overflow_add-i invariant-loop decreases-loop
 add-i c = omega arith
 
-loop-less : tie.Need-loop-smaller invariant-loop decreases-loop
+loop-less : tie.Need-loop-i-smaller invariant-loop decreases-loop
 loop-less c = omega arith
 
-loop_again : tie.Need-loop-preserved invariant-loop decreases-loop
+loop_again : tie.Need-loop-i-preserved invariant-loop decreases-loop
 loop_again c =
-    let at-loop : tie.At-loop invariant-loop decreases-loop = search in (
+    let at-loop : tie.At-loop-i invariant-loop decreases-loop = search in (
       omega arith,
-      simp length-set at-loop.loop.inv.1,
-      read_on _ _ _ _ c.before.before.loop-test.true (omega arith) _ _ _
-          c.byte_of.ensures (omega arith) at-loop.loop.inv.2,
+      simp length-set at-loop.loop-i.invariant.1,
+      read_on _ _ _ _ c.loop-i-test.true (omega arith) _ _ _
+          c.byte_of.ensures (omega arith) at-loop.loop-i.invariant.2,
     )
 
 returns : tie.Need-returns invariant-loop decreases-loop
-returns c = read_end _ _ _ _ c.loop-test.false _ _ c.before.loop.invariant.1 c.before.loop.invariant.2
+returns c = read_end _ _ _ _ c.loop-i-test.false _ _ c.loop-i.invariant.1 c.loop-i.invariant.2
 
 pub name_at_spec : {M : Type 1} → statement M
 name_at_spec =

@@ -12,46 +12,46 @@ use Rattle.shelf_layout.proofs.Laws.{test_on, test_end}
 use Rattle.shelf_layout.proofs.name_ok.Statement.{statement}
 use Rattle.shelf_layout.proofs.name_ok.Tie as tie
 
-abbrev invariant-loop : tie.invariant-loop
+abbrev invariant-loop : tie.invariant-loop-i
 invariant-loop l o i₀ i = (i ≤ 13) × (are_bytes (take (13 - i) (drop (o + i) l)) ≡ are_bytes (take 13 (drop o l)))
 
-abbrev decreases-loop : tie.decreases-loop
+abbrev decreases-loop : tie.decreases-loop-i
 decreases-loop l o i₀ i = 13 - i
 
-loop-holds : tie.Need-loop-init invariant-loop decreases-loop
+loop-holds : tie.Need-loop-i-init invariant-loop decreases-loop
 loop-holds c = (omega arith, rw add-zero)
 
-add-is-whole : tie.Need-overflow-add-is-whole invariant-loop decreases-loop
+add-is-whole : tie.Need-overflow_add-o invariant-loop decreases-loop
 add-is-whole c = omega arith
 
-mul-is-whole : tie.Need-overflow-mul-is-whole invariant-loop decreases-loop
+mul-is-whole : tie.Need-offset_bounds-l-o invariant-loop decreases-loop
 mul-is-whole c = omega arith
 
-shared-slice-read-is-whole : tie.Need-shared-slice-read-is-whole invariant-loop decreases-loop
+shared-slice-read-is-whole : tie.Need-bounds-l-o invariant-loop decreases-loop
 shared-slice-read-is-whole c = omega arith
 
-returns : tie.Need-returns invariant-loop decreases-loop
+returns : tie.Need-returns-then-not-is_whole invariant-loop decreases-loop
 returns c =
-    let at-loop-test : tie.In-loop invariant-loop decreases-loop = search in
-    test_on _ _ _ _ at-loop-test.loop-test.taken (omega arith) _ false (sym (not-true _ c.if1.true) ∙ c.before.is_whole.ensures)
-    at-loop-test.before.loop.inv.1
+    let at-loop-test : tie.In-loop-i invariant-loop decreases-loop = search in
+    test_on _ _ _ _ at-loop-test.loop-i-test.true (omega arith) _ false (sym c.if-not-is_whole.true ∙ c.is_whole.ensures)
+    at-loop-test.loop-i.invariant.1
 
-add-i : tie.Need-overflow-add-i invariant-loop decreases-loop
+add-i : tie.Need-overflow_add-i invariant-loop decreases-loop
 add-i c = omega arith
 
-loop-less : tie.Need-loop-smaller invariant-loop decreases-loop
+loop-less : tie.Need-loop-i-smaller invariant-loop decreases-loop
 loop-less c = omega arith
 
-loop_again : tie.Need-loop-preserved invariant-loop decreases-loop
+loop_again : tie.Need-loop-i-preserved invariant-loop decreases-loop
 loop_again c =
-    let at-loop-test : tie.In-loop invariant-loop decreases-loop = search in (
+    let at-loop-test : tie.In-loop-i invariant-loop decreases-loop = search in (
       omega arith,
-      test_on _ _ _ _ at-loop-test.loop-test.taken (omega arith) _ true
-          (sym (not-false _ c.if1.false) ∙ c.before.is_whole.ensures) at-loop-test.before.loop.inv.1,
+      test_on _ _ _ _ at-loop-test.loop-i-test.true (omega arith) _ true
+          (sym c.if-not-is_whole.false ∙ c.is_whole.ensures) at-loop-test.loop-i.invariant.1,
     )
 
-returns-2 : tie.Need-returns-2 invariant-loop decreases-loop
-returns-2 c = test_end _ _ _ _ c.loop-test.false _ c.before.loop.invariant.1
+returns-2 : tie.Need-returns invariant-loop decreases-loop
+returns-2 c = test_end _ _ _ _ c.loop-i-test.false _ c.loop-i.invariant.1
 
 pub name_ok_spec : {M : Type 1} → statement M
 name_ok_spec =

@@ -10,42 +10,42 @@ use Rattle.shelf_layout.proofs.Laws.{names_on, names_end}
 use Rattle.shelf_layout.proofs.names_ok.Statement.{statement}
 use Rattle.shelf_layout.proofs.names_ok.Tie as tie
 
-abbrev invariant-loop : tie.invariant-loop
+abbrev invariant-loop : tie.invariant-loop-i
 invariant-loop l i₀ i = (i ≤ 16) × (names_ok (16 - i) (drop (23 * i) l) ≡ names_ok 16 l)
 
-abbrev decreases-loop : tie.decreases-loop
+abbrev decreases-loop : tie.decreases-loop-i
 decreases-loop l i₀ i = 16 - i
 
-loop-holds : tie.Need-loop-init invariant-loop decreases-loop
+loop-holds : tie.Need-loop-i-init invariant-loop decreases-loop
 loop-holds c = (omega arith, refl)
 
-mul-name-ok : tie.Need-overflow-mul-name-ok invariant-loop decreases-loop
+mul-name-ok : tie.Need-overflow_mul-i invariant-loop decreases-loop
 mul-name-ok c = omega arith
 
-name-ok-requires : tie.Need-name-ok-requires invariant-loop decreases-loop
+name-ok-requires : tie.Need-name_ok-requires invariant-loop decreases-loop
 name-ok-requires c κs =
-    let h = c.before.before.before.requires in omega arith
+    let h = c.requires in omega arith
 
-returns : tie.Need-returns invariant-loop decreases-loop
+returns : tie.Need-returns-then-not-name_ok invariant-loop decreases-loop
 returns c =
-    names_on _ _ (omega arith) _ false (sym (not-true _ c.if1.true) ∙ c.before.name-ok.ensures)
-    c.before.before.before.loop.invariant.1
+    names_on _ _ (omega arith) _ false (sym c.if-not-name_ok.true ∙ c.name_ok.ensures)
+    c.loop-i.invariant.1
 
-add-i : tie.Need-overflow-add-i invariant-loop decreases-loop
+add-i : tie.Need-overflow_add-i invariant-loop decreases-loop
 add-i c = omega arith
 
-loop-less : tie.Need-loop-smaller invariant-loop decreases-loop
+loop-less : tie.Need-loop-i-smaller invariant-loop decreases-loop
 loop-less c = omega arith
 
-loop_again : tie.Need-loop-preserved invariant-loop decreases-loop
+loop_again : tie.Need-loop-i-preserved invariant-loop decreases-loop
 loop_again c = (
   omega arith,
-  names_on _ _ (omega arith) _ true (sym (not-false _ c.if1.false) ∙ c.before.name-ok.ensures)
-      c.before.before.before.loop.invariant.1,
+  names_on _ _ (omega arith) _ true (sym c.if-not-name_ok.false ∙ c.name_ok.ensures)
+      c.loop-i.invariant.1,
 )
 
-returns-2 : tie.Need-returns-2 invariant-loop decreases-loop
-returns-2 c = names_end _ _ c.loop-test.false _ c.before.loop.invariant.1
+returns-2 : tie.Need-returns invariant-loop decreases-loop
+returns-2 c = names_end _ _ c.loop-i-test.false _ c.loop-i.invariant.1
 
 pub names_ok_spec : {M : Type 1} → statement M
 names_ok_spec =

@@ -7,7 +7,7 @@ use Rattle.shelf_layout.proofs.place_at.Tie as tie
 
 returns : tie.Need-returns
 unfolding place_at
-returns c = rw (c.before.name-at.ensures, c.state-at.ensures, state_on _ _)
+returns c = rw (c.name_at-name.ensures, c.state_at-state.ensures, state_on _ _)
 
 pub place_at_spec : {M : Type 1} → statement M
 place_at_spec = tie.close (tie.spec (λ c κs. search rules) (λ c. search rules) (λ c κs. search rules) returns)

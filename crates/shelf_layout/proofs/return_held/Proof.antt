@@ -6,13 +6,13 @@ use Rattle.shelf_layout.proofs.return_held.Tie as tie
 
 returns : tie.Need-returns
 returns c =
-    let at-return-to : tie.After-return-to = search in
+    let at-return-to : tie.After-return_to-r = search in
     rw (
-      ← at-return-to.before.shelf-at.ensures,
-      ← at-return-to.return-to.ensures,
-      c.before.before.put-state.ensures,
+      ← at-return-to.shelf_at-s.ensures,
+      ← at-return-to.return_to-r.ensures,
+      c.put_state.ensures,
       written_all _ _
-          at-return-to.before.before.before.before.before.pre.1,
+          at-return-to.requires.1,
     )
 
 pub return_held_spec : {M : Type 1} → statement M

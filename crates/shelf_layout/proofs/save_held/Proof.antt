@@ -6,8 +6,8 @@ use Rattle.shelf_layout.proofs.save_held.Tie as tie
 returns : tie.Need-returns
 returns c =
     let at-save : tie.After-save = search in
-    rw (← at-save.before.before.before.before.state-at.ensures, ← at-save.before.before.shelf-at.ensures, ← at-save.save.ensures)
-    c.before.before.write-changed.ensures
+    rw (← at-save.state_at-b.ensures, ← at-save.shelf_at-s.ensures, ← at-save.save.ensures)
+    c.write_changed.ensures
 
 pub save_held_spec : {M : Type 1} → statement M
 save_held_spec =

@@ -6,27 +6,27 @@ use borrow.Author.Rules.{rules}
 use Rattle.shelf_layout.proofs.save_in.Statement.{statement}
 use Rattle.shelf_layout.proofs.save_in.Tie as tie
 
-returns : tie.Need-returns
+returns : tie.Need-returns-then-shelf-ne368
 unfolding shelf_save_door_of
-returns c = rw (ne_eqb _ _ c.if1.true)
+returns c = rw (ne_eqb _ _ c.if-shelf-ne368.true)
 
-returns-2 : tie.Need-returns-2
+returns-2 : tie.Need-returns-then-state-ne10
 unfolding shelf_save_door_of
-returns-2 c = rw (eq-eqb _ _ c.before.if1.false, ne_eqb _ _ c.if2.true)
+returns-2 c = rw (eq-eqb _ _ c.if-shelf-ne368.false, ne_eqb _ _ c.if-state-ne10.true)
 
-returns-3 : tie.Need-returns-3
+returns-3 : tie.Need-returns-then-shelf_ok
 unfolding shelf_save_door_of
 returns-3 c =
-    let at-if3 : tie.Then3 = search in
-    let at-if2 : tie.Else2 = search in
-    rw (eq-eqb _ _ at-if2.before.if1.left, eq-eqb _ _ at-if2.if2.left, sym at-if3.before.shelf-ok.ensures ∙ at-if3.if3.taken)
-    c.before.before.save-held.ensures
+    let at-if3 : tie.Then-shelf_ok = search in
+    let at-if2 : tie.Else-state-ne10 = search in
+    rw (eq-eqb _ _ at-if2.if-shelf-ne368.false, eq-eqb _ _ at-if2.if-state-ne10.false, sym at-if3.shelf_ok.ensures ∙ at-if3.if-shelf_ok.true)
+    c.save_held.ensures
 
-returns-4 : tie.Need-returns-4
+returns-4 : tie.Need-returns
 unfolding shelf_save_door_of
 returns-4 c =
-    let at-if2 : tie.Else2 = search in
-    rw (eq-eqb _ _ at-if2.before.if1.left, eq-eqb _ _ at-if2.if2.left, sym c.before.shelf-ok.ensures ∙ c.if3.false)
+    let at-if2 : tie.Else-state-ne10 = search in
+    rw (eq-eqb _ _ at-if2.if-shelf-ne368.false, eq-eqb _ _ at-if2.if-state-ne10.false, sym c.shelf_ok.ensures ∙ c.if-shelf_ok.false)
 
 pub save_in_spec : {M : Type 1} → statement M
 save_in_spec =

@@ -6,7 +6,7 @@ use Rattle.shelf_layout.proofs.shelf_ok.Tie as tie
 
 returns : tie.Need-returns
 unfolding shelf_ok
-returns c = rw (c.before.names-ok.ensures, c.is-sound.ensures, c.before.before.shelf-at.ensures)
+returns c = rw (c.names_ok.ensures, c.is_sound.ensures, c.shelf_at-s.ensures)
 
 pub shelf_ok_spec : {M : Type 1} → statement M
 shelf_ok_spec = tie.close (tie.spec (λ c κs. search rules) (λ c κs. search rules) (λ c κs. search rules) returns)

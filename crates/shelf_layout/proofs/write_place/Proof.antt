@@ -6,8 +6,8 @@ use Rattle.shelf_layout.proofs.write_place.Tie as tie
 
 returns : tie.Need-returns
 returns c =
-    let at-write-name : tie.After-write-name = search in
-    place_written _ at-write-name.before.before.before.before.before.pre at-write-name.write-name.ensures (search rules)
+    let at-write-name : tie.After-write_name = search in
+    place_written _ at-write-name.requires at-write-name.write_name.ensures (search rules)
 
 pub write_place_spec : {M : Type 1} → statement M
 write_place_spec =
