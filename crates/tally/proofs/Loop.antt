@@ -40,7 +40,7 @@ module _ {A B : Type 0} {o : Oracle} {c : Conditions} {late : A → Bool} {at_en
     (here : Midway o c late at_end pass a₀ p₀ a p) where
   -- t_end came
   pub ends_late : {x : Outcome B} {p' : Place} → late a ≡ true → RunsOn o (at_end a) p x p' → RunsOn o (whole c late at_end pass a₀) p₀ x p'
-  ends_late e r = on (last (said _ (at_end a) here.reached (Words.loop-late o _ late at_end pass a _ _ e refl)) r)
+  ends_late e r = on (last (said _ (at_end a) here.reached (Words.loop_late o _ late at_end pass a _ _ e refl)) r)
 
   -- no step is left
   pub ends_due : c.step_limit ≤ p.tally.steps
@@ -53,15 +53,15 @@ module _ {A B : Type 0} {o : Oracle} {c : Conditions} {late : A → Bool} {at_en
 
     -- the pass goes on to another
     pub goes_on : {b : A} → x ≡ goes (again b) → Midway o c late at_end pass a₀ p₀ b p'
-    goes_on {b} y = record { reached = came (beyond here.reached r (Words.loop-again o _ late at_end pass a _ one_less e r.same y refl)) }
+    goes_on {b} y = record { reached = came (beyond here.reached r (Words.loop_again o _ late at_end pass a _ one_less e r.same y refl)) }
 
     -- the pass ends the loop, or stops
     pub ends_done : (y : Outcome B) → x ≡ over_by y → RunsOn o (whole c late at_end pass a₀) p₀ y p'
     unfolding exec
-    ends_done y z = on (ended (beyond here.reached r (Words.loop-done o _ late at_end pass a _ y one_less e r.same z)))
+    ends_done y z = on (ended (beyond here.reached r (Words.loop_done o _ late at_end pass a _ y one_less e r.same z)))
 
 -- 23: what is left of a loop that may make no step more, and is not late
 pub due_stops : {A B : Type 0} {o : Oracle} (late : A → Bool) (at_end : A → M B) (pass : A → M (Pass A B)) (a : A) {m : M B} {p₀ p : Place} {n : ℕ}
     → late a ≡ false → Reached o m p₀ n (loop 0 late at_end pass a) p → RunsOn o m p₀ (stops 23) p
 unfolding exec
-due_stops late at_end pass a e r = on (ended (said _ (stop_with 23) r (Words.loop-out _ _ late at_end pass a _ refl e)))
+due_stops late at_end pass a e r = on (ended (said _ (stop_with 23) r (Words.loop_out _ _ late at_end pass a _ refl e)))

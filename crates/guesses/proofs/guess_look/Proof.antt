@@ -8,27 +8,27 @@ use Rattle.guesses.specs.Guesses.{guess_look_of}
 use Rattle.guesses.proofs.guess_look.Statement.{statement}
 use Rattle.guesses.proofs.guess_look.Tie as tie
 
-returns : tie.Need-returns
+returns : tie.Need-returns-then-check_sheet-ne0
 unfolding guess_look_of
-returns c = rw (← c.before.check-sheet.ensures, ne_eqb _ _ c.if1.true)
+returns c = rw (← c.check_sheet.ensures, ne_eqb _ _ c.if-check_sheet-ne0.true)
 
-returns-2 : tie.Need-returns-2
+returns-2 : tie.Need-returns-then-is_guessed
 unfolding guess_look_of
 returns-2 c =
-    let made : tie.After-make-index = search in
-    let tested : tie.Else1 = search in
-    let a = tested.before.before.before.args in
-    let e = guess_same made.make-index.last.1.0 (cuts_in a.sheet.now (replicate index_words 0)) made.make-index.ensures.1 a.x a.z in
-    rw (← tested.before.check-sheet.ensures, eq-eqb _ _ tested.if1.left, ← e, ← c.before.is-guessed.ensures, c.if2.true)
+    let made : tie.After-make_index = search in
+    let tested : tie.Else-check_sheet-ne0 = search in
+    let a = tested.args in
+    let e = guess_same made.make_index.new.index (cuts_in a.sheet.now (replicate index_words 0)) made.make_index.ensures.1 a.x a.z in
+    rw (← tested.check_sheet.ensures, eq-eqb _ _ tested.if-check_sheet-ne0.false, ← e, ← c.is_guessed.ensures, c.if-is_guessed.true)
 
-returns-3 : tie.Need-returns-3
+returns-3 : tie.Need-returns-else-is_guessed
 unfolding guess_look_of
 returns-3 c =
-    let made : tie.After-make-index = search in
-    let tested : tie.Else1 = search in
-    let a = tested.before.before.before.args in
-    let e = guess_same made.make-index.last.1.0 (cuts_in a.sheet.now (replicate index_words 0)) made.make-index.ensures.1 a.x a.z in
-    rw (← tested.before.check-sheet.ensures, eq-eqb _ _ tested.if1.left, ← e, ← c.before.is-guessed.ensures, c.if2.false)
+    let made : tie.After-make_index = search in
+    let tested : tie.Else-check_sheet-ne0 = search in
+    let a = tested.args in
+    let e = guess_same made.make_index.new.index (cuts_in a.sheet.now (replicate index_words 0)) made.make_index.ensures.1 a.x a.z in
+    rw (← tested.check_sheet.ensures, eq-eqb _ _ tested.if-check_sheet-ne0.false, ← e, ← c.is_guessed.ensures, c.if-is_guessed.false)
 
 pub guess_look_spec : {M : Type 1} → statement M
 guess_look_spec =

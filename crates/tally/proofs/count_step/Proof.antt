@@ -6,11 +6,11 @@ use Rattle.tally.specs.Lists.{stay}
 use Rattle.tally.proofs.count_step.Statement.{statement}
 use Rattle.tally.proofs.count_step.Tie as tie
 
-add-t5 : tie.Need-overflow-add-t5
-add-t5 c = omega (arith, c.before.before.before.requires.0)
+add-t5 : tie.Need-overflow_add-result
+add-t5 c = omega (arith, c.requires.0)
 
-add-t6 : tie.Need-overflow-add-t6
-add-t6 c = let p = c.before.before.before.before.requires in omega (arith, p.0, p.1.0, p.1.1)
+add-t6 : tie.Need-overflow_add-result-2
+add-t6 c = let p = c.requires in omega (arith, p.0, p.1.0, p.1.1)
 
 returns : tie.Need-returns
 unfolding make_step exec

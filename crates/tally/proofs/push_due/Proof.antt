@@ -5,18 +5,18 @@ use Rattle.tally.proofs.Word.{not_due}
 use Rattle.tally.proofs.push_due.Statement.{statement}
 use Rattle.tally.proofs.push_due.Tie as tie
 
-push-point-requires : tie.Need-push-point-requires
+push-point-requires : tie.Need-push_point-requires
 push-point-requires c κs = search rules
 
-same_length : tie.Need-same-length
+same_length : tie.Need-shape_of-points
 same_length c = search rules
 
-returns : tie.Need-returns
+returns : tie.Need-returns-then-due
 unfolding when
-returns c = rw c.before.before.before.before.if1.true c.before.before.push-point.ensures
+returns c = rw c.if-due.true c.push_point.ensures
 
-returns-2 : tie.Need-returns-2
-returns-2 c = rw c.if1.false (not_due _ _ _ _ _)
+returns-2 : tie.Need-returns-else-due
+returns-2 c = rw c.if-due.false (not_due _ _ _ _ _)
 
 pub push_due_spec : {M : Type 1} → statement M
 push_due_spec = tie.close (tie.spec push-point-requires same_length returns returns-2)

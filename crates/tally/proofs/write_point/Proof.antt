@@ -3,17 +3,17 @@ use Rattle.std.proofs.Common.{rules}
 use Rattle.tally.proofs.write_point.Statement.{statement}
 use Rattle.tally.proofs.write_point.Tie as tie
 
-slice-aggregate-push : tie.Need-slice-aggregate-push
+slice-aggregate-push : tie.Need-slice_bounds-push-end
 slice-aggregate-push c = search rules
 
 push-requires : tie.Need-push-requires
 push-requires c κs = search rules
 
-same_length : tie.Need-same-length
+same_length : tie.Need-shape_of-points
 same_length c = search rules
 
 returns : tie.Need-returns
-returns c = rw c.before.before.before.before.before.before.phase-number.ensures at c.before.before.push.ensures
+returns c = rw c.phase_number-number.ensures at c.push.ensures
 
 pub write_point_spec : {M : Type 1} → statement M
 write_point_spec =

@@ -21,49 +21,49 @@ filled l at n h =
     let e : length (blanks n) ≡ n = length-replicate {A = ℕ} n 32 in
     record { adds = subst (λ (k : ℕ). Adds l at (blanks n) (at + k) (paste l at (blanks n) k)) e (adds l at (blanks n) (rw e h)); wide = e }
 
-abbrev invariant-loop : tie.invariant-loop
+abbrev invariant-loop : tie.invariant-loop-i
 invariant-loop out₀ at n i₀ out i = (out ≡ paste out₀ at (blanks n) i) × (i ≤ n) × (length out ≡ length out₀)
 
-abbrev decreases-loop : tie.decreases-loop
+abbrev decreases-loop : tie.decreases-loop-i
 decreases-loop out₀ at n i₀ out i = n - i
 
-loop-holds : tie.Need-loop-init invariant-loop decreases-loop
+loop-holds : tie.Need-loop-i-init invariant-loop decreases-loop
 loop-holds c = (paste-zero c.args.out.now c.args.at (blanks c.args.n), zero-le, refl)
 
-add-out : tie.Need-overflow-add-out invariant-loop decreases-loop
+add-out : tie.Need-overflow_add-out invariant-loop decreases-loop
 add-out c = omega arith
 
-slice-write-out : tie.Need-slice-write-out invariant-loop decreases-loop
+slice-write-out : tie.Need-bounds-out-at invariant-loop decreases-loop
 slice-write-out c = omega arith
 
-add-i : tie.Need-overflow-add-i invariant-loop decreases-loop
+add-i : tie.Need-overflow_add-i invariant-loop decreases-loop
 add-i c = omega arith
 
-loop-less : tie.Need-loop-smaller invariant-loop decreases-loop
+loop-less : tie.Need-loop-i-smaller invariant-loop decreases-loop
 loop-less c = omega arith
 
-loop_again : tie.Need-loop-preserved invariant-loop decreases-loop
+loop_again : tie.Need-loop-i-preserved invariant-loop decreases-loop
 loop_again c =
     let at-loop = c.before in
-    let a = at-loop.before.args in
-    let h : a.at + at-loop.loop.i < length a.out.now = omega arith in (
-      rw (at-loop.loop.invariant.0, add-one) (more a.out.now a.at a.n at-loop.loop.i h c.loop-test.true),
+    let a = at-loop.args in
+    let h : a.at + at-loop.loop-i.i < length a.out.now = omega arith in (
+      rw (at-loop.loop-i.invariant.0, add-one) (more a.out.now a.at a.n at-loop.loop-i.i h c.loop-i-test.true),
       omega arith,
-      simp length-set at-loop.loop.invariant.2,
+      simp length-set at-loop.loop-i.invariant.2,
     )
 
-add-result : tie.Need-overflow-add-result invariant-loop decreases-loop
+add-result : tie.Need-overflow_add-result invariant-loop decreases-loop
 add-result c = omega arith
 
-same_length : tie.Need-same-length invariant-loop decreases-loop
-same_length c = c.before.loop.invariant.2
+same_length : tie.Need-shape_of-out invariant-loop decreases-loop
+same_length c = c.loop-i.invariant.2
 
 returns : tie.Need-returns invariant-loop decreases-loop
 returns c =
     let start : tie.Start invariant-loop decreases-loop = search in
     let a = start.args in
-    let e : c.before.loop.i ≡ a.n = omega arith in
-    rw (c.before.loop.invariant.0, e) (filled a.out.now a.at a.n start.pre)
+    let e : c.loop-i.i ≡ a.n = omega arith in
+    rw (c.loop-i.invariant.0, e) (filled a.out.now a.at a.n start.requires)
 
 pub put_blanks_spec : {M : Type 1} → statement M
 put_blanks_spec =

@@ -21,19 +21,19 @@ number xs k n {l} {m} {o} {r} x e w h s =
 put-requires : tie.Need-put-requires
 put-requires c κs =
     let at_start_lem : tie.Start = search in
-    let d = c.before.before.decimal in
+    let d = c.decimal-k in
     let e = d.ensures.0.1 in
-    let k = few at_start_lem.args.n d.result at_start_lem.fits.n.fits d.ensures.1.0 in
+    let k = few at_start_lem.args.n d.result at_start_lem.ranges.n.fits d.ensures.1.0 in
     omega arith
 
 returns : tie.Need-returns
 returns c =
     let at-put : tie.After-put = search in
-    let at-decimal : tie.After-decimal = search in
+    let at-decimal : tie.After-decimal-k = search in
     let at_start_lem : tie.Start = search in
-    let d = at-decimal.decimal in
-    number _ d.result at_start_lem.args.n at-put.put.ensures d.ensures.1.1 d.ensures.1.0
-    (few at_start_lem.args.n d.result at_start_lem.fits.n.fits d.ensures.1.0) d.ensures.0.1
+    let d = at-decimal.decimal-k in
+    number _ d.result at_start_lem.args.n at-put.put.ensures d.ensures.1.1.0 d.ensures.1.0
+    (few at_start_lem.args.n d.result at_start_lem.ranges.n.fits d.ensures.1.0) d.ensures.0.1
 
 pub put_number_spec : {M : Type 1} → statement M
 put_number_spec =

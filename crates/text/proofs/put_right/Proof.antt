@@ -7,8 +7,8 @@ use Rattle.text.proofs.put_right.Tie as tie
 returns : tie.Need-returns
 returns c =
     let at-put : tie.After-put = search in
-    let at-put-blanks : tie.After-put-blanks = search in
-    right at-put-blanks.before.before.before.before.pre.1 at-put-blanks.put-blanks.ensures at-put.put.ensures
+    let at-put-blanks : tie.After-put_blanks-k = search in
+    right at-put-blanks.requires.1 at-put-blanks.put_blanks-k.ensures at-put.put.ensures
 
 pub put_right_spec : {M : Type 1} → statement M
 put_right_spec =

@@ -13,22 +13,22 @@ use Rattle.text.proofs.put_signed_right.Tie as tie
 placed : {w o r : ℕ} {l m s t : List ℕ} → s ≡ t → Fills w l o (right_of w s) r m → Fills w l o (right_of w t) r m
 placed {w} {o} {r} {l} {m} e x = subst (λ (u : List ℕ). Fills w l o (right_of w u) r m) e x
 
-slice-aggregate-put-right : tie.Need-slice-aggregate-put-right
+slice-aggregate-put-right : tie.Need-slice_bounds-put_right-end
 slice-aggregate-put-right c =
-    let x = c.before.before.put-signed.ensures.adds in
+    let x = c.put_signed-k.ensures.adds in
     let n = x.next in
     omega (arith, n, ap length (starts x))
 
-put-right-requires : tie.Need-put-right-requires
+put-right-requires : tie.Need-put_right-requires
 put-right-requires c κs =
-    let x = c.before.before.put-signed.ensures.adds in
+    let x = c.put_signed-k.ensures.adds in
     let a : tie.Start = search in
-    (omega arith, subst (λ (t : List ℕ). length t ≤ a.args.w) (sym (starts x)) a.pre.1)
+    (omega arith, subst (λ (t : List ℕ). length t ≤ a.args.w) (sym (starts x)) a.requires.1)
 
 returns : tie.Need-returns
 returns c =
-    let x = c.before.before.before.before.before.put-signed.ensures.adds in
-    placed (starts x) c.before.before.put_right.ensures
+    let x = c.put_signed-k.ensures.adds in
+    placed (starts x) c.put_right.ensures
 
 pub put_signed_right_spec : {M : Type 1} → statement M
 put_signed_right_spec =
