@@ -23,117 +23,117 @@ use Rattle.roll.proofs.ground_step.Tie as tie
 
 -- ---- the places on the way, each from a later one
 
-abbrev start : tie.After-step-on → tie.Start
+abbrev start : tie.After-step_on-s → tie.Start
 start c = c.before.before.before.before.before
 
-abbrev step : tie.After-push-due → tie.After-step-on
+abbrev step : tie.After-push_due-sampled → tie.After-step_on-s
 step c = c.before.before.before.before
 
-abbrev push : tie.After-sampled2 → tie.After-push-due
-push c = c.before.before.before.before
+abbrev push : tie.In-Made → tie.After-push_due-sampled
+push c = c.before.before.before
 
-abbrev on-push : tie.After-look → tie.After-sampled2
-on-push c = c.before.before.before.before
+abbrev on-push : tie.After-look → tie.In-Made
+on-push c = c.before.before.before
 
-abbrev look : tie.After-under → tie.After-look
-look c = c.before.before
+abbrev look : tie.In-Saw → tie.After-look
+look c = c.before
 
-abbrev seen : tie.After-test → tie.After-under
-seen c = c.before.before.before
+abbrev seen : tie.After-test → tie.In-Saw
+seen c = c.before.before
 
-abbrev test : tie.After-t4 → tie.After-test
-test c = c.before.before
+abbrev test : tie.In-Good → tie.After-test
+test c = c.before
 
-abbrev good : tie.After-held → tie.After-t4
-good c = c.before.before
+abbrev good : tie.After-held → tie.In-Good
+good c = c.before
 
-abbrev held : tie.After-push-point → tie.After-held
+abbrev held : tie.After-push_point-rested → tie.After-held
 held c = c.before.before.before
 
 -- ---- what is known there
 
 -- the pass has come to a tally t and points l, and `rest` is left of it, whatever the contacts are
-abbrev Came : tie.After-push-due → (Conditions → Roll → Stepped → Bool → M (Pass Roll Ending)) → Tally → List Float → Type 0
+abbrev Came : tie.After-push_due-sampled → (Conditions → Roll → Stepped → Bool → M (Pass Roll Ending)) → Tally → List Float → Type 0
 Came c rest t l =
     let a = (start (step c)).args in
     (lc : List Float) → Reached (course_of a.sheet.now) (ground_step a.c a.g) (place a.t lc a.points.now) 1
-    (rest a.c a.g (step c).step-on.result c.before.before.point-due.result) (place t lc l)
+    (rest a.c a.g (step c).step_on-s.result c.point_due-due.result) (place t lc l)
 
-abbrev points : tie.After-push-due → List Float
-points c = c.push-due.new.1.1.1.0
+abbrev points : tie.After-push_due-sampled → List Float
+points c = c.push_due-sampled.new.points
 
-abbrev under : tie.After-under → GroundSample
-under c = c.under.given.0.0
+abbrev under : tie.In-Saw → GroundSample
+under c = c.in-Saw.under
 
 abbrev ball : tie.After-test → BallState
-ball c = c.before.put_down_lem.result
+ball c = c.put_down-b.result
 
-came_step : (c : tie.After-push-due) → Came c to_push c.before.before.before.count-step.result (start (step c)).args.points.now
-came_step c lc = stepped _ _ (step c).step-on.ensures c.before.before.point-due.ensures c.before.before.before.count-step.ensures
+came_step : (c : tie.After-push_due-sampled) → Came c to_push c.count_step-t1.result (start (step c)).args.points.now
+came_step c lc = stepped _ _ (step c).step_on-s.ensures c.point_due-due.ensures c.count_step-t1.ensures
 
-came_push : (c : tie.After-sampled2) → Came (push c) to_look c.sampled2.given.0.0 (points (push c))
-came_push c lc = due_pushed _ _ _ _ (came_step (push c) lc) (push c).push-due.ensures c.sampled2.given.1
+came_push : (c : tie.In-Made) → Came (push c) to_look c.in-Made.after (points (push c))
+came_push c lc = due_pushed _ _ _ _ (came_step (push c) lc) (push c).push_due-sampled.ensures c.in-Made.is
 
-came_look : (c : tie.After-under) → let p = on-push (look c) in Came (push p) (λ e g s d. to_test e g s d (under c)) c.under.given.0.1.0
+came_look : (c : tie.In-Saw) → let p = on-push (look c) in Came (push p) (λ e g s d. to_test e g s d (under c)) c.in-Saw.t3
     (points (push p))
-came_look c lc = spot_seen _ _ _ (came_push (on-push (look c)) lc) (look c).look.ensures c.under.given.1
+came_look c lc = spot_seen _ _ _ (came_push (on-push (look c)) lc) (look c).look.ensures c.in-Saw.is
 
-came_test : (c : tie.After-t4) → let u = seen (test c) in let p = on-push (look u) in
-    Came (push p) (λ e g s d. to_held e g s d (under u) (ball (test c))) c.t4.given.0.0 (points (push p))
-came_test c lc = state_good _ (came_look (seen (test c)) lc) (test c).before.put_down_lem.ensures (test c).test.ensures c.t4.given.1
+came_test : (c : tie.In-Good) → let u = seen (test c) in let p = on-push (look u) in
+    Came (push p) (λ e g s d. to_held e g s d (under u) (ball (test c))) c.in-Good.t4 (points (push p))
+came_test c lc = state_good _ (came_look (seen (test c)) lc) (test c).before.put_down-b.ensures (test c).test.ensures c.in-Good.is
 
-came_held : (c : tie.After-push-point) → let d = held c in let u = seen (test (good d)) in let p = on-push (look u) in
-    Came (push p) (λ e g s d. to_rest (ball (test (good (held c))))) (good d).t4.given.0.0 (points (push p))
-came_held c lc = not_taken _ _ _ (came_test (good (held c)) lc) (held c).held.ensures c.before.before.if1.true
+came_held : (c : tie.After-push_point-rested) → let d = held c in let u = seen (test (good d)) in let p = on-push (look u) in
+    Came (push p) (λ e g s d. to_rest (ball (test (good (held c))))) (good d).in-Good.t4 (points (push p))
+came_held c lc = not_taken _ _ _ (came_test (good (held c)) lc) (held c).held.ensures c.if-held.true
 
 -- ---- the answers
 
-count-step-requires : tie.Need-count-step-requires
+count-step-requires : tie.Need-count_step-t1-requires
 count-step-requires c κs =
     let p = (start c).requires in
-    (omega (arith, p.1.0, p.1.1.limit), (p.1.1.work, rw c.step-on.ensures (pass_at_most_200 _ _)))
+    (omega (arith, p.1.0, p.1.1.limit), (p.1.1.work, rw c.step_on-s.ensures (pass_at_most_200 _ _)))
 
-push-due-requires : tie.Need-push-due-requires
-push-due-requires c κs = let s : tie.Start = search in s.pre.0
+push-due-requires : tie.Need-push_due-sampled-requires
+push-due-requires c κs = let s : tie.Start = search in s.requires.0
 
-returns : tie.Need-returns
+returns : tie.Need-returns-in-Ended
 returns c lc =
-    let p : tie.After-push-due = search in
-    ended (due_stopped _ _ _ _ (came_step p lc) p.push-due.ensures c.before.sampled.given.1)
+    let p : tie.After-push_due-sampled = search in
+    ended (due_stopped _ _ _ _ (came_step p lc) p.push_due-sampled.ensures c.in-Ended.is)
 
 look-requires : tie.Need-look-requires
-look-requires c κs = let p : tie.After-push-due = search in (start (step p)).requires.0
+look-requires c κs = let p : tie.After-push_due-sampled = search in (start (step p)).requires.0
 
-returns-2 : tie.Need-returns-2
+returns-2 : tie.Need-returns-in_default
 returns-2 c lc =
-    let l = c.before.before in
-    ended (spot_off _ _ _ (came_push (on-push l) lc) l.look.ensures c.enum_told.given.1)
+    let l = c.before in
+    ended (spot_off _ _ _ (came_push (on-push l) lc) l.look.ensures c.in_default.is)
 
-returns-3 : tie.Need-returns-3
+returns-3 : tie.Need-returns-in_default-test
 returns-3 c lc =
-    let t = c.before.before in
-    ended (state_bad _ (came_look (seen t) lc) t.before.put_down_lem.ensures t.test.ensures c.enum-told2.given.1)
+    let t = c.before in
+    ended (state_bad _ (came_look (seen t) lc) t.put_down-b.ensures t.test.ensures c.in_default-test.is)
 
-push-point-requires : tie.Need-push-point-requires
+push-point-requires : tie.Need-push_point-rested-requires
 push-point-requires c κs =
     let l = look (seen (test (good c.before.before))) in
     (start (step (push (on-push l)))).requires.0
 
-returns-4 : tie.Need-returns-4
+returns-4 : tie.Need-returns-in-Ended-rested
 returns-4 c lc =
-    let p : tie.After-push-point = search in
-    ended (point_stopped _ _ _ (came_held p lc) p.push-point.ensures c.before.rested.given.1)
+    let p : tie.After-push_point-rested = search in
+    ended (point_stopped _ _ _ (came_held p lc) p.push_point-rested.ensures c.in-Ended-rested.is)
 
-returns-5 : tie.Need-returns-5
+returns-5 : tie.Need-returns-then-held
 returns-5 c lc =
-    let p : tie.After-push-point = search in
-    ended (point_pushed _ _ _ (came_held p lc) p.push-point.ensures c.before.rested2.given.1)
+    let p : tie.After-push_point-rested = search in
+    ended (point_pushed _ _ _ (came_held p lc) p.push_point-rested.ensures c.in-Made-rested.is)
 
-returns-6 : tie.Need-returns-6
+returns-6 : tie.Need-returns
 returns-6 c lc =
     let h = c.before.before in
-    rw c.next-after.ensures
-    (ended (not_left _ _ _ (came_test (good h) lc) h.held.ensures c.before.if1.false))
+    rw c.next_after.ensures
+    (ended (not_left _ _ _ (came_test (good h) lc) h.held.ensures c.if-held.false))
 
 pub ground_step_spec : {M : Type 1} → statement M
 ground_step_spec =
