@@ -25,6 +25,8 @@ an_eighth = refl
 -- by 8 is times 1/8
 eighth : (x : Float) → T (finite_of x) → x ⊘ dec 8 1 ≡ x ⊗ dec 1 8
 unfolding div mul
+eighth nan i = elim i [ ]
+eighth (inf _) i = elim i [ ]
 eighth (fin true m e) i = ap (div binary64 (fin true m e)) eight ∙ ap (round binary64 true (m * up e * 1)) (mul_comm 8 (down e)) ∙ sym
     (ap (mul binary64 (fin true m e)) an_eighth)
 eighth (fin false m e) i = ap (div binary64 (fin false m e)) eight ∙ ap (round binary64 false (m * up e * 1)) (mul_comm 8 (down e)) ∙ sym

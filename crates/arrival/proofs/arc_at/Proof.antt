@@ -4,13 +4,13 @@ use Rattle.arrival.specs.Arrival.{arc_of}
 use Rattle.arrival.proofs.arc_at.Statement.{statement}
 use Rattle.arrival.proofs.arc_at.Tie as tie
 
-returns : tie.Need-returns
+returns : tie.Need-returns-then-arc
 unfolding arc_of of_bits round
-returns c = rw c.before.if1.true c.hermite.ensures
+returns c = rw c.if-arc.true c.hermite.ensures
 
-returns-2 : tie.Need-returns-2
+returns-2 : tie.Need-returns-else-arc
 unfolding arc_of of_bits round
-returns-2 c = rw c.before.if1.false c.parabola.ensures
+returns-2 c = rw c.if-arc.false c.parabola.ensures
 
 pub arc_at_spec : {M : Type 1} → statement M
 arc_at_spec = tie.close (tie.spec (λ c κs. tt) (λ c κs. tt) returns returns-2)

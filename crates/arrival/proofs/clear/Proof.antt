@@ -5,13 +5,13 @@ use Rattle.arrival.specs.Arrival.{clearance}
 use Rattle.arrival.proofs.clear.Statement.{statement}
 use Rattle.arrival.proofs.clear.Tie as tie
 
-returns : tie.Need-returns
+returns : tie.Need-returns-in_default
 unfolding clearance
-returns c lc lp = ended (spot_off _ _ _ begun c.before.before.look.ensures c.enum_told.given.1)
+returns c lc lp = ended (spot_off _ _ _ begun c.look.ensures c.in_default.is)
 
-returns-2 : tie.Need-returns-2
+returns-2 : tie.Need-returns
 unfolding clearance
-returns-2 c lc lp = let s : tie.After-s = search in ended (spot_seen _ _ _ begun s.before.before.look.ensures s.s.given.1)
+returns-2 c lc lp = let s : tie.In-Saw = search in ended (spot_seen _ _ _ begun s.look.ensures s.in-Saw.is)
 
 pub clear_spec : {M : Type 1} → statement M
 clear_spec = tie.close (tie.spec (λ c κs. search rules) (λ c. search rules) (λ c. search rules) returns returns-2)

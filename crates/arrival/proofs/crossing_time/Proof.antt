@@ -11,48 +11,48 @@ use Rattle.arrival.proofs.crossing_time.Tie as tie
 
 -- ---- the places on the way, each from a later one
 
-abbrev start : tie.After-end-value → tie.Start
+abbrev start : tie.After-end_value-bound → tie.Start
 start c = c.before.before.before
 
-abbrev bound : tie.After-what → tie.After-end-value
-bound c = c.before.before.before
+abbrev bound : tie.In-At → tie.After-end_value-bound
+bound c = c.before.before
 
-abbrev value : tie.After-look-at → tie.After-what
-value c = c.before.before.before.before
+abbrev value : tie.After-look_at-seen → tie.In-At
+value c = c.before.before.before
 
 -- ---- the answers
 
-returns : tie.Need-returns
+returns : tie.Need-returns-in_default
 unfolding crossing_time
 returns c =
-    let b : tie.After-end-value = search in
-    (unsearched _ _ _ (λ l. halted _ _ _ _ l (b.end_value_lem.ensures l) (ap value_by c.enum_told.given.1)), omega arith)
+    let b : tie.After-end_value-bound = search in
+    (unsearched _ _ _ (λ l. halted _ _ _ _ l (b.end_value-bound.ensures l) (ap value_by c.in_default.is)), omega arith)
 
-returns-2 : tie.Need-returns-2
+returns-2 : tie.Need-returns-in_default-under
 unfolding crossing_time
 returns-2 c =
-    let s : tie.After-look-at = search in
+    let s : tie.After-look_at-seen = search in
     let v = value s in (
       unsearched _ _ _ (λ l.
-          went _ _ _ _ l ((bound v).end_value_lem.ensures l) (ap value_by v.what.given.1)
-          (look_off _ _ _ _ _ _ (rw s.before.before.arc-at.ensures at s.look_at.ensures) c.enum-told2.given.1)),
+          went _ _ _ _ l ((bound v).end_value-bound.ensures l) (ap value_by v.in-At.is)
+          (look_off _ _ _ _ _ _ (rw s.arc_at-last.ensures at s.look_at-seen.ensures) c.in_default-under.is)),
       omega arith,
     )
 
-find-root-requires : tie.Need-find-root-requires
-find-root-requires c κs = let s : tie.After-look-at = search in (start (bound (value s))).requires
+find-root-requires : tie.Need-find_root-requires
+find-root-requires c κs = let s : tie.After-look_at-seen = search in (start (bound (value s))).requires
 
-returns-3 : tie.Need-returns-3
+returns-3 : tie.Need-returns
 unfolding crossing_time
 returns-3 c =
-    let u : tie.After-under = search in
-    let s : tie.After-look-at = search in
+    let u : tie.In-Saw = search in
+    let s : tie.After-look_at-seen = search in
     let v = value s in (
       λ l.
-          went _ _ _ _ l ((bound v).end_value_lem.ensures l) (ap value_by v.what.given.1)
-          (look_saw _ _ _ _ _ _ (rw s.before.before.arc-at.ensures at s.look_at.ensures) u.under.given.1
-          (rw (← c.before.before.Ending-at.ensures, ← c.before.guess-in.ensures) (c.find-root.ensures.0 l))),
-      c.find-root.ensures.1,
+          went _ _ _ _ l ((bound v).end_value-bound.ensures l) (ap value_by v.in-At.is)
+          (look_saw _ _ _ _ _ _ (rw s.arc_at-last.ensures at s.look_at-seen.ensures) u.in-Saw.is
+          (rw (← c.ending_at-bracket.ensures, ← c.guess_in-guess.ensures) (c.find_root.ensures.0 l))),
+      c.find_root.ensures.1,
     )
 
 pub crossing_time_spec : {M : Type 1} → statement M

@@ -9,22 +9,22 @@ use Rattle.arrival.specs.Inner.{value_by}
 use Rattle.arrival.proofs.end_value.Statement.{statement}
 use Rattle.arrival.proofs.end_value.Tie as tie
 
-returns : tie.Need-returns
+returns : tie.Need-returns-in_default
 unfolding end_value
 returns c =
-    let v : tie.After-clearance-at = search in
-    λ l. rw v.before.if1.taken (halted _ _ _ _ l (v.clearance-at.ensures l) (ap value_by c.enum_told.given.1))
+    let v : tie.After-clearance_at-at = search in
+    λ l. rw v.if-b-arc.true (halted _ _ _ _ l (v.clearance_at-at.ensures l) (ap value_by c.in_default.is))
 
-returns-2 : tie.Need-returns-2
+returns-2 : tie.Need-returns-then-b-arc
 unfolding end_value exec of_bits round
 returns-2 c =
-    let w = c.before.before in
-    let v : tie.After-clearance-at = search in
-    λ l. rw v.before.if1.taken (went _ _ _ _ l (v.clearance-at.ensures l) (ap value_by w.what.given.1) (rw c.min.ensures))
+    let w = c.before in
+    let v : tie.After-clearance_at-at = search in
+    λ l. rw v.if-b-arc.true (went _ _ _ _ l (v.clearance_at-at.ensures l) (ap value_by w.in-At.is) (rw c.min.ensures))
 
-returns-3 : tie.Need-returns-3
+returns-3 : tie.Need-returns
 unfolding end_value exec
-returns-3 c = λ l. rw c.if1.false
+returns-3 c = λ l. rw c.if-b-arc.false
 
 pub end_value_spec : {M : Type 1} → statement M
 end_value_spec =

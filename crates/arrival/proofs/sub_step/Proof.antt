@@ -10,24 +10,24 @@ use Rattle.arrival.specs.Inner.{value_by}
 use Rattle.arrival.proofs.sub_step.Statement.{statement}
 use Rattle.arrival.proofs.sub_step.Tie as tie
 
-returns : tie.Need-returns
+returns : tie.Need-returns-then-i-eq-CROSSING_SUBSTEPS
 unfolding sub_step exec
-returns c = λ l. rw (eq-eqb _ _ c.before.if1.true, c.advance.ensures)
+returns c = λ l. rw (eq-eqb _ _ c.if-i-eq-CROSSING_SUBSTEPS.true, c.advance-last.ensures)
 
-returns-2 : tie.Need-returns-2
+returns-2 : tie.Need-returns-in_default
 unfolding sub_step of_bits round
 returns-2 c =
-    let v : tie.After-clearance-at = search in
-    let e : tie.Else1 = search in
-    λ l. rw (ne_eqb _ _ e.if1.left) (halted _ _ _ _ l (v.clearance-at.ensures l) (ap value_by c.enum_told.given.1))
+    let v : tie.After-clearance_at-at = search in
+    let e : tie.Else-i-eq-CROSSING_SUBSTEPS = search in
+    λ l. rw (ne_eqb _ _ e.if-i-eq-CROSSING_SUBSTEPS.false) (halted _ _ _ _ l (v.clearance_at-at.ensures l) (ap value_by c.in_default.is))
 
-returns-3 : tie.Need-returns-3
+returns-3 : tie.Need-returns
 unfolding sub_step of_bits round exec
 returns-3 c =
-    let v : tie.After-clearance-at = search in
-    let e : tie.Else1 = search in
-    λ l. rw (ne_eqb _ _ e.if1.left) (went _ _ _ _ l (v.clearance-at.ensures l)
-    (ap value_by c.before.before.what.given.1) (rw c.advance2.ensures))
+    let v : tie.After-clearance_at-at = search in
+    let e : tie.Else-i-eq-CROSSING_SUBSTEPS = search in
+    λ l. rw (ne_eqb _ _ e.if-i-eq-CROSSING_SUBSTEPS.false) (went _ _ _ _ l (v.clearance_at-at.ensures l)
+    (ap value_by c.in-At.is) (rw c.advance-next.ensures))
 
 pub sub_step_spec : {M : Type 1} → statement M
 sub_step_spec =
