@@ -15,78 +15,78 @@ use Rattle.ground_phase.specs.GroundPhase.{last_phase, time_up, ground_from}
 use Rattle.ground_phase.proofs.ground.Statement.{statement}
 use Rattle.ground_phase.proofs.ground.Tie as tie
 
-abbrev invariant-loop : tie.invariant-loop
+abbrev invariant-loop : tie.invariant-loop-c
 invariant-loop sheet index points₀ c g₀ t₀ points g t = (lc : List Float) →
     Midway (course_of sheet) c (λ g. is_late g.state.time c.t_end) (λ g. time_up g.state (last_phase (last_of g.last))) (ground_step c) g₀
     (place t₀ lc points₀) g (place t lc points)
 
-abbrev decreases-loop : tie.decreases-loop
+abbrev decreases-loop : tie.decreases-loop-c
 decreases-loop sheet index points₀ c g₀ t₀ points g t = c.step_limit - t.steps
 
-loop-holds : tie.Need-loop-init invariant-loop decreases-loop
+loop-holds : tie.Need-loop-c-init invariant-loop decreases-loop
 loop-holds c lc = starts _ _ _ _ _ _ _
 
 -- ---- the places on the way, each from a later one
 
-abbrev loop : tie.Else1 invariant-loop decreases-loop → tie.At-loop invariant-loop decreases-loop
+abbrev loop : tie.Else-is_late invariant-loop decreases-loop → tie.At-loop-c invariant-loop decreases-loop
 loop c = c.before.before.before
 
-abbrev early : tie.After-ground-step invariant-loop decreases-loop → tie.Else1 invariant-loop decreases-loop
+abbrev early : tie.After-ground_step-pass invariant-loop decreases-loop → tie.Else-is_late invariant-loop decreases-loop
 early c = c.before.before.before.before.before
 
 -- ---- the answers
 
-time-up-requires : tie.Need-time-up-requires invariant-loop decreases-loop
-time-up-requires c κs = let s : tie.Start invariant-loop decreases-loop = search in s.pre.0
+time-up-requires : tie.Need-time_up-requires invariant-loop decreases-loop
+time-up-requires c κs = let s : tie.Start invariant-loop decreases-loop = search in s.requires.0
 
-returns : tie.Need-returns invariant-loop decreases-loop
+returns : tie.Need-returns-then-is_late invariant-loop decreases-loop
 unfolding ground_from
 returns c lc =
     let u = c.before.before in
-    let t : tie.Then1 invariant-loop decreases-loop = search in
-    let l : tie.At-loop invariant-loop decreases-loop = search in
-    ends_late (l.loop.inv lc) (sym t.before.is-late.ensures ∙ t.if1.taken)
-    (rw (← u.before.last-phase.ensures) (on (u.time-up.ensures lc)))
+    let t : tie.Then-is_late invariant-loop decreases-loop = search in
+    let l : tie.At-loop-c invariant-loop decreases-loop = search in
+    ends_late (l.loop-c.invariant lc) (sym t.is_late.ensures ∙ t.if-is_late.true)
+    (rw (← u.last_phase.ensures) (on (u.time_up.ensures lc)))
 
-returns-2 : tie.Need-returns-2 invariant-loop decreases-loop
+returns-2 : tie.Need-returns-then-t-c invariant-loop decreases-loop
 unfolding ground_from
 returns-2 c lc =
-    let e : tie.Else1 invariant-loop decreases-loop = search in
-    (sym e.before.is-late.ensures ∙ e.if1.left, ends_due ((loop e).loop.inv lc) c.if2.true)
+    let e : tie.Else-is_late invariant-loop decreases-loop = search in
+    (sym e.is_late.ensures ∙ e.if-is_late.false, ends_due ((loop e).loop-c.invariant lc) c.if-t-c.true)
 
-ground-step-requires : tie.Need-ground-step-requires invariant-loop decreases-loop
+ground-step-requires : tie.Need-ground_step-pass-requires invariant-loop decreases-loop
 ground-step-requires c κs =
-    let l : tie.At-loop invariant-loop decreases-loop = search in
+    let l : tie.At-loop-c invariant-loop decreases-loop = search in
     let s : tie.Start invariant-loop decreases-loop = search in
-    (s.pre.0, (c.before.if2.false, still_bounded (l.loop.inv []).reached s.pre.1))
+    (s.requires.0, (c.if-t-c.false, still_bounded (l.loop-c.invariant []).reached s.requires.1))
 
-loop-less : tie.Need-loop-smaller invariant-loop decreases-loop
+loop-less : tie.Need-loop-c-smaller invariant-loop decreases-loop
 loop-less c =
-    let s : tie.After-ground-step invariant-loop decreases-loop = search in
-    omega (arith, rw c.before.pass.given.1 at (s.ground_step_lem.ensures []).count, s.before.before.if2.left)
+    let s : tie.After-ground_step-pass invariant-loop decreases-loop = search in
+    omega (arith, rw c.in-On.is at (s.ground_step-pass.ensures []).count, s.if-t-c.false)
 
-loop_again : tie.Need-loop-preserved invariant-loop decreases-loop
+loop_again : tie.Need-loop-c-preserved invariant-loop decreases-loop
 loop_again c lc =
-    let s : tie.After-ground-step invariant-loop decreases-loop = search in
+    let s : tie.After-ground_step-pass invariant-loop decreases-loop = search in
     let e = early s in
-    goes_on ((loop e).loop.inv lc) (sym e.before.is-late.ensures ∙ e.if1.left) s.before.before.if2.left
-    (rw c.before.pass.given.1 at (s.ground_step_lem.ensures lc)) refl
+    goes_on ((loop e).loop-c.invariant lc) (sym e.before.is_late.ensures ∙ e.if-is_late.false) s.if-t-c.false
+    (rw c.in-On.is at (s.ground_step-pass.ensures lc)) refl
 
-returns-3 : tie.Need-returns-3 invariant-loop decreases-loop
+returns-3 : tie.Need-returns-in-Over invariant-loop decreases-loop
 unfolding ground_from
 returns-3 c lc =
-    let s : tie.After-ground-step invariant-loop decreases-loop = search in
+    let s : tie.After-ground_step-pass invariant-loop decreases-loop = search in
     let e = early s in
-    ends_done ((loop e).loop.inv lc) (sym e.before.is-late.ensures ∙ e.if1.left) s.before.before.if2.left
-    (rw c.before.pass2.given.1 at (s.ground_step_lem.ensures lc)) _ refl
+    ends_done ((loop e).loop-c.invariant lc) (sym e.before.is_late.ensures ∙ e.if-is_late.false) s.if-t-c.false
+    (rw c.in-Over.is at (s.ground_step-pass.ensures lc)) _ refl
 
-returns-4 : tie.Need-returns-4 invariant-loop decreases-loop
+returns-4 : tie.Need-returns-in-Ended invariant-loop decreases-loop
 unfolding ground_from
 returns-4 c lc =
-    let s : tie.After-ground-step invariant-loop decreases-loop = search in
+    let s : tie.After-ground_step-pass invariant-loop decreases-loop = search in
     let e = early s in
-    ends_done ((loop e).loop.inv lc) (sym e.before.is-late.ensures ∙ e.if1.left) s.before.before.if2.left
-    (rw c.before.pass3.given.1 at (s.ground_step_lem.ensures lc)) _ refl
+    ends_done ((loop e).loop-c.invariant lc) (sym e.before.is_late.ensures ∙ e.if-is_late.false) s.if-t-c.false
+    (rw c.in-Ended.is at (s.ground_step-pass.ensures lc)) _ refl
 
 pub ground_spec : {M : Type 1} → statement M
 ground_spec =

@@ -5,13 +5,13 @@ use Rattle.ground_phase.specs.GroundPhase.{last_phase}
 use Rattle.ground_phase.proofs.last_phase.Statement.{statement}
 use Rattle.ground_phase.proofs.last_phase.Tie as tie
 
-returns : tie.Need-returns
+returns : tie.Need-returns-in-None
 unfolding last_of last_phase
-returns c = rw c.enum_told.given.1
+returns c = rw c.in-None.is
 
-returns-2 : tie.Need-returns-2
+returns-2 : tie.Need-returns-in-Some
 unfolding last_of last_phase
-returns-2 c = rw c.before.last.given.1
+returns-2 c = rw c.in-Some.is
 
 pub last_phase_spec : {M : Type 1} → statement M
 last_phase_spec = tie.close (tie.spec (λ c. search rules) (λ c. search rules) returns returns-2)
