@@ -15,75 +15,75 @@ use Rattle.hop.specs.declared.Way.TheVariants.{Late}
 use Rattle.hop.proofs.hop.Statement.{statement}
 use Rattle.hop.proofs.hop.Tie as tie
 
-abbrev invariant-loop : tie.invariant-loop
+abbrev invariant-loop : tie.invariant-loop-c
 invariant-loop sheet index points₀ c aero f₀ t₀ points f t = (lc : List Float) →
     Midway (course_of sheet) c (λ f. is_late f.state.time c.t_end) (λ f. pure (Late f.state)) (hop_step c (air_with c aero)) f₀ (place t₀ lc points₀) f
     (place t lc points)
 
-abbrev decreases-loop : tie.decreases-loop
+abbrev decreases-loop : tie.decreases-loop-c
 decreases-loop sheet index points₀ c aero f₀ t₀ points f t = c.step_limit - t.steps
 
-loop-holds : tie.Need-loop-init invariant-loop decreases-loop
+loop-holds : tie.Need-loop-c-init invariant-loop decreases-loop
 loop-holds c lc = starts _ _ _ _ _ _ _
 
 -- ---- the places on the way, each from a later one
 
-abbrev loop : tie.Else1 invariant-loop decreases-loop → tie.At-loop invariant-loop decreases-loop
+abbrev loop : tie.Else-is_late invariant-loop decreases-loop → tie.At-loop-c invariant-loop decreases-loop
 loop c = c.before.before.before
 
-abbrev early : tie.After-hop-step invariant-loop decreases-loop → tie.Else1 invariant-loop decreases-loop
+abbrev early : tie.After-hop_step-pass invariant-loop decreases-loop → tie.Else-is_late invariant-loop decreases-loop
 early c = c.before.before.before.before.before
 
 -- ---- the answers
 
-returns : tie.Need-returns invariant-loop decreases-loop
+returns : tie.Need-returns-then-is_late invariant-loop decreases-loop
 unfolding hop_from
 returns c lc =
-    let l : tie.At-loop invariant-loop decreases-loop = search in
-    rw (← l.before.from-spin-vector.ensures) (ends_late (l.loop.inv lc) (sym c.before.is-late.ensures ∙ c.if1.true) (stands _ _ _))
+    let l : tie.At-loop-c invariant-loop decreases-loop = search in
+    rw (← l.from_spin_vector-aero.ensures) (ends_late (l.loop-c.invariant lc) (sym c.is_late.ensures ∙ c.if-is_late.true) (stands _ _ _))
 
-returns-2 : tie.Need-returns-2 invariant-loop decreases-loop
+returns-2 : tie.Need-returns-then-t-c invariant-loop decreases-loop
 unfolding hop_from
 returns-2 c lc =
-    let e : tie.Else1 invariant-loop decreases-loop = search in
-    rw (← (loop e).before.from-spin-vector.ensures)
-    (sym e.before.is-late.ensures ∙ e.if1.left, ends_due ((loop e).loop.inv lc) c.if2.true)
+    let e : tie.Else-is_late invariant-loop decreases-loop = search in
+    rw (← (loop e).from_spin_vector-aero.ensures)
+    (sym e.is_late.ensures ∙ e.if-is_late.false, ends_due ((loop e).loop-c.invariant lc) c.if-t-c.true)
 
-hop-step-requires : tie.Need-hop-step-requires invariant-loop decreases-loop
+hop-step-requires : tie.Need-hop_step-pass-requires invariant-loop decreases-loop
 hop-step-requires c κs =
-    let l : tie.At-loop invariant-loop decreases-loop = search in
+    let l : tie.At-loop-c invariant-loop decreases-loop = search in
     let s : tie.Start invariant-loop decreases-loop = search in
-    (s.pre.0, (c.before.if2.false, still_bounded (l.loop.inv []).reached s.pre.1))
+    (s.requires.0, (c.if-t-c.false, still_bounded (l.loop-c.invariant []).reached s.requires.1))
 
-loop-less : tie.Need-loop-smaller invariant-loop decreases-loop
+loop-less : tie.Need-loop-c-smaller invariant-loop decreases-loop
 loop-less c =
-    let s : tie.After-hop-step invariant-loop decreases-loop = search in
-    omega (arith, rw c.before.pass.given.1 at (s.hop_step_lem.ensures []).count, s.before.before.if2.left)
+    let s : tie.After-hop_step-pass invariant-loop decreases-loop = search in
+    omega (arith, rw c.in-On.is at (s.hop_step-pass.ensures []).count, s.if-t-c.false)
 
-loop_again : tie.Need-loop-preserved invariant-loop decreases-loop
+loop_again : tie.Need-loop-c-preserved invariant-loop decreases-loop
 loop_again c lc =
-    let s : tie.After-hop-step invariant-loop decreases-loop = search in
+    let s : tie.After-hop_step-pass invariant-loop decreases-loop = search in
     let e = early s in
-    goes_on ((loop e).loop.inv lc) (sym e.before.is-late.ensures ∙ e.if1.left) s.before.before.if2.left
-    (rw c.before.pass.given.1 at (s.hop_step_lem.ensures lc)) refl
+    goes_on ((loop e).loop-c.invariant lc) (sym e.is_late.ensures ∙ e.if-is_late.false) s.if-t-c.false
+    (rw c.in-On.is at (s.hop_step-pass.ensures lc)) refl
 
-returns-3 : tie.Need-returns-3 invariant-loop decreases-loop
+returns-3 : tie.Need-returns-in-Over invariant-loop decreases-loop
 unfolding hop_from
 returns-3 c lc =
-    let s : tie.After-hop-step invariant-loop decreases-loop = search in
+    let s : tie.After-hop_step-pass invariant-loop decreases-loop = search in
     let e = early s in
-    rw (← (loop e).before.from-spin-vector.ensures)
-    (ends_done ((loop e).loop.inv lc) (sym e.before.is-late.ensures ∙ e.if1.left) s.before.before.if2.left
-    (rw c.before.pass2.given.1 at (s.hop_step_lem.ensures lc)) _ refl)
+    rw (← (loop e).from_spin_vector-aero.ensures)
+    (ends_done ((loop e).loop-c.invariant lc) (sym e.is_late.ensures ∙ e.if-is_late.false) s.if-t-c.false
+    (rw c.in-Over.is at (s.hop_step-pass.ensures lc)) _ refl)
 
-returns-4 : tie.Need-returns-4 invariant-loop decreases-loop
+returns-4 : tie.Need-returns-in-Ended invariant-loop decreases-loop
 unfolding hop_from
 returns-4 c lc =
-    let s : tie.After-hop-step invariant-loop decreases-loop = search in
+    let s : tie.After-hop_step-pass invariant-loop decreases-loop = search in
     let e = early s in
-    rw (← (loop e).before.from-spin-vector.ensures)
-    (ends_done ((loop e).loop.inv lc) (sym e.before.is-late.ensures ∙ e.if1.left) s.before.before.if2.left
-    (rw c.before.pass3.given.1 at (s.hop_step_lem.ensures lc)) _ refl)
+    rw (← (loop e).from_spin_vector-aero.ensures)
+    (ends_done ((loop e).loop-c.invariant lc) (sym e.is_late.ensures ∙ e.if-is_late.false) s.if-t-c.false
+    (rw c.in-Ended.is at (s.hop_step-pass.ensures lc)) _ refl)
 
 pub hop_spec : {M : Type 1} → statement M
 hop_spec =

@@ -23,23 +23,23 @@ use Rattle.hop.proofs.hop_step.Tie as tie
 
 -- ---- the places on the way, each from a later one
 
-abbrev start : tie.After-step-arc → tie.Start
+abbrev start : tie.After-step_arc-arc → tie.Start
 start c = c.before.before.before.before.before
 
-abbrev step : tie.After-test → tie.After-step-arc
+abbrev step : tie.After-test → tie.After-step_arc-arc
 step c = c.before.before.before
 
-abbrev test : tie.After-t2 → tie.After-test
-test c = c.before.before
+abbrev test : tie.In-Good → tie.After-test
+test c = c.before
 
-abbrev good : tie.After-clear → tie.After-t2
-good c = c.before.before.before
+abbrev good : tie.After-clear → tie.In-Good
+good c = c.before.before
 
-abbrev clear : tie.After-end → tie.After-clear
-clear c = c.before.before
+abbrev clear : tie.In-At → tie.After-clear
+clear c = c.before
 
-abbrev end : tie.After-arrive → tie.After-end
-end c = c.before.before.before
+abbrev end : tie.After-arrive-met → tie.In-At
+end c = c.before.before
 
 -- ---- what is known there
 
@@ -48,108 +48,108 @@ abbrev Came : tie.After-test → (Conditions → Flight → Arc → M (Pass Flig
 Came c rest t =
     let a = (start (step c)).args in
     (lc : List Float) → Reached (course_of a.sheet.now) (hop_step a.c (air_with a.c a.aero) a.f) (place a.t lc a.points.now) 1
-    (rest a.c a.f (step c).step-arc.result) (place t lc a.points.now)
+    (rest a.c a.f (step c).step_arc-arc.result) (place t lc a.points.now)
 
 abbrev ball : tie.After-test → BallState
-ball c = c.before.before.step-end.result
+ball c = c.step_end-b.result
 
-came_step : (c : tie.After-test) → Came c to_test c.before.count-step.result
-came_step c lc = stepped _ _ _ (step c).step-arc.ensures c.before.count-step.ensures
+came_step : (c : tie.After-test) → Came c to_test c.count_step-t1.result
+came_step c lc = stepped _ _ _ (step c).step_arc-arc.ensures c.count_step-t1.ensures
 
 -- no evaluation is made up to there
-none_yet : (c : tie.After-end) → let t = test (good (clear c)) in c.end.given.0.1.0.evaluations ≤ (start (step t)).args.t.evaluations
+none_yet : (c : tie.In-At) → let t = test (good (clear c)) in c.in-At.t3.evaluations ≤ (start (step t)).args.t.evaluations
 none_yet c =
     let t = test (good (clear c)) in
     omega (
       arith,
-      no_work_cleared _ _ (clear c).clear.ensures c.end.given.1,
-      no_work_tested (course_of (start (step t)).args.sheet.now) _ t.test.ensures (good (clear c)).t2.given.1,
-      t.before.count-step.ensures.work,
+      no_work_cleared _ _ (clear c).clear.ensures c.in-At.is,
+      no_work_tested (course_of (start (step t)).args.sheet.now) _ t.test.ensures (good (clear c)).in-Good.is,
+      t.before.count_step-t1.ensures.work,
     )
 
 -- so there is room for the 200 of a search
-room : (c : tie.After-end) → let t = test (good (clear c)) in c.end.given.0.1.0.evaluations + 200 ≤ (start (step t)).args.t.evaluations + 200 * 1
+room : (c : tie.In-At) → let t = test (good (clear c)) in c.in-At.t3.evaluations + 200 ≤ (start (step t)).args.t.evaluations + 200 * 1
 room c = omega (arith, none_yet c)
 
-came_test : (c : tie.After-t2) → let t = test c in Came t (λ e f arc. to_clear e f arc (ball t)) c.t2.given.0.0
-came_test c lc = let t = test c in state_good _ (came_step t lc) t.before.before.step-end.ensures t.test.ensures c.t2.given.1
+came_test : (c : tie.In-Good) → let t = test c in Came t (λ e f arc. to_clear e f arc (ball t)) c.in-Good.t2
+came_test c lc = let t = test c in state_good _ (came_step t lc) t.step_end-b.ensures t.test.ensures c.in-Good.is
 
-came_clear : (c : tie.After-end) → let t = test (good (clear c)) in Came t (λ e f arc. to_arrive e f arc (ball t) c.end.given.0.0)
-    c.end.given.0.1.0
-came_clear c lc = cleared _ _ (came_test (good (clear c)) lc) (clear c).clear.ensures c.end.given.1
+came_clear : (c : tie.In-At) → let t = test (good (clear c)) in Came t (λ e f arc. to_arrive e f arc (ball t) c.in-At.end)
+    c.in-At.t3
+came_clear c lc = cleared _ _ (came_test (good (clear c)) lc) (clear c).clear.ensures c.in-At.is
 
 -- no crossing, and whether a point is due
-came_none : (c : tie.After-push-due) → let m = c.before.before.before.before in
-    Came (test (good (clear (end m.before.before))))
-    (λ e f arc. to_due f (ball (test (good (clear (end m.before.before))))) c.before.before.is-due.result) m.met3.given.0.0
+came_none : (c : tie.After-push_due-sampled) → let m = c.before.before.before in
+    Came (test (good (clear (end m.before))))
+    (λ e f arc. to_due f (ball (test (good (clear (end m.before))))) c.is_due-due.result) m.in-Nothing.t4
 came_none c lc =
-    let m : tie.After-met3 = search in
-    let a = m.before.before in
-    not_met _ _ (none_arrived _ _ _ _ _ (came_clear (end a) lc) (room (end a)) a.arrive.ensures m.met3.given.1) c.before.before.is-due.ensures
+    let m : tie.In-Nothing = search in
+    let a = m.before in
+    not_met _ _ (none_arrived _ _ _ _ _ (came_clear (end a) lc) (room (end a)) a.arrive-met.ensures m.in-Nothing.is) c.is_due-due.ensures
 
 -- ---- the answers
 
-count-step-requires : tie.Need-count-step-requires
+count-step-requires : tie.Need-count_step-t1-requires
 count-step-requires c κs =
     let s : tie.Start = search in
-    let p = s.pre in
+    let p = s.requires in
     (omega (arith, p.1.0, p.1.1.limit), (p.1.1.work, omega arith))
 
-returns : tie.Need-returns
+returns : tie.Need-returns-in_default
 returns c lc =
-    let t = c.before.before in
-    ended (state_bad _ (came_step t lc) t.before.before.step-end.ensures t.test.ensures c.enum_told.given.1)
+    let t = c.before in
+    ended (state_bad _ (came_step t lc) t.step_end-b.ensures t.test.ensures c.in_default.is)
 
 clear-requires : tie.Need-clear-requires
-clear-requires c κs = (start (step (test c.before.before))).requires.0
+clear-requires c κs = (start (step (test c.before))).requires.0
 
-returns-2 : tie.Need-returns-2
+returns-2 : tie.Need-returns-in_default-clear
 returns-2 c lc =
-    let l = c.before.before in
-    ended (clear_off _ _ (came_test (good l) lc) l.clear.ensures c.enum-told2.given.1)
+    let l = c.before in
+    ended (clear_off _ _ (came_test (good l) lc) l.clear.ensures c.in_default-clear.is)
 
-arrive-requires : tie.Need-arrive-requires
+arrive-requires : tie.Need-arrive-met-requires
 arrive-requires c κs =
-    let e = c.before.before in
+    let e = c.before in
     let p = (start (step (test (good (clear e))))).requires in
     (p.0, omega (arith, none_yet e, p.1.0, p.1.1.limit, p.1.1.work))
 
-returns-3 : tie.Need-returns-3
+returns-3 : tie.Need-returns-in_default-test
 unfolding hop_next
 returns-3 c lc =
-    let m : tie.After-met2 = search in
-    let a = m.before.before in
-    ended (state_bad _ (arrived _ _ _ _ _ (came_clear (end a) lc) (room (end a)) a.arrive.ensures m.met2.given.1) refl
-    c.before.before.test2.ensures c.enum-told3.given.1)
+    let m : tie.In-At-met = search in
+    let a = m.before in
+    ended (state_bad _ (arrived _ _ _ _ _ (came_clear (end a) lc) (room (end a)) a.arrive-met.ensures m.in-At-met.is) refl
+    c.test-in-At-met.ensures c.in_default-test.is)
 
-push-due-requires : tie.Need-push-due-requires
+push-due-requires : tie.Need-push_due-sampled-requires
 push-due-requires c κs =
-    let a : tie.After-arrive = search in
+    let a : tie.After-arrive-met = search in
     (start (step (test (good (clear (end a)))))).requires.0
 
-returns-4 : tie.Need-returns-4
+returns-4 : tie.Need-returns-in-Ended
 returns-4 c lc =
-    let p : tie.After-push-due = search in
-    ended (due_stopped _ _ _ _ (came_none p lc) p.push-due.ensures c.before.sampled.given.1)
+    let p : tie.After-push_due-sampled = search in
+    ended (due_stopped _ _ _ _ (came_none p lc) p.push_due-sampled.ensures c.in-Ended.is)
 
-returns-5 : tie.Need-returns-5
+returns-5 : tie.Need-returns-in-Off
 returns-5 c lc =
-    let a : tie.After-arrive = search in
-    ended (arrive_off _ _ _ _ _ (came_clear (end a) lc) (room (end a)) a.arrive.ensures c.before.met.given.1)
+    let a : tie.After-arrive-met = search in
+    ended (arrive_off _ _ _ _ _ (came_clear (end a) lc) (room (end a)) a.arrive-met.ensures c.in-Off.is)
 
-returns-6 : tie.Need-returns-6
+returns-6 : tie.Need-returns-in-Good-test
 unfolding hop_next
 returns-6 c lc =
-    let t : tie.After-test2 = search in
-    let m = t.before.before in
-    let a = m.before.before in
-    ended (state_good _ (arrived _ _ _ _ _ (came_clear (end a) lc) (room (end a)) a.arrive.ensures m.met2.given.1) refl
-    t.test2.ensures c.before.t5.given.1)
+    let t : tie.After-test-in-At-met = search in
+    let m = t.before in
+    let a = m.before in
+    ended (state_good _ (arrived _ _ _ _ _ (came_clear (end a) lc) (room (end a)) a.arrive-met.ensures m.in-At-met.is) refl
+    t.test-in-At-met.ensures c.in-Good-test.is)
 
-returns-7 : tie.Need-returns-7
+returns-7 : tie.Need-returns-in-Made
 returns-7 c lc =
-    let p : tie.After-push-due = search in
-    rw c.next-after.ensures (ended (due_pushed _ _ _ _ (came_none p lc) p.push-due.ensures c.before.before.sampled2.given.1))
+    let p : tie.After-push_due-sampled = search in
+    rw c.next_after-next_sample.ensures (ended (due_pushed _ _ _ _ (came_none p lc) p.push_due-sampled.ensures c.in-Made.is))
 
 pub hop_step_spec : {M : Type 1} → statement M
 hop_step_spec =
