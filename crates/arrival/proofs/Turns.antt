@@ -20,7 +20,7 @@ use Rattle.look.specs.declared.Look.TheVariants.{Saw}
 use Rattle.look.specs.declared.Rect.{Rect}
 use Rattle.tally.specs.Language.{M, ran, Log, Outcome, goes, stops, pure, in_m, ◌>>=◌, evaluated, count_evaluation, evaluate, look}
 use Rattle.tally.specs.Inner.{Looks, Searches}
-use Rattle.tally.specs.Words.{went, halted, look_saw}
+use Rattle.tally.proofs.Words.{went, halted, look_saw}
 use Rattle.arrival.specs.Arrival.{arc_of, clearance_at, sub_step, crossing_from, first_crossing, crossing_time, placed}
 use Rattle.arrival.specs.declared.Arc.{Arc}
 

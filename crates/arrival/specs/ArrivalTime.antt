@@ -7,7 +7,7 @@ use Rattle.number.specs.Ops.{◌⊕◌, dec}
 use Rattle.number.specs.Order.{le_through, within_of_lem, within_lo, within_hi}
 use Rattle.vector.specs.declared.DVec3.{DVec3}
 use Rattle.state.specs.declared.BallState.{BallState}
-use Rattle.search.specs.Evaluations.{Within, largest}
+use Rattle.search.proofs.Evaluations.{Within, largest}
 use Rattle.tally.specs.Language.{M, look}
 use Rattle.arrival.specs.declared.Arc.{Arc}
 use Rattle.arrival.specs.Arrival.{clearance_at, first_crossing, crossing_time, arc_of, placed, hop_arrival}

@@ -8,7 +8,7 @@ use Rattle.number.specs.Ops.{◌⊗◌, ◌⊘◌, dec}
 use Rattle.vector.specs.declared.DVec3.{DVec3}
 use Rattle.search.specs.declared.Bracket.{Bracket}
 use Rattle.tally.specs.Language.{M, ◌>>=◌, pure, look, if◌then◌else◌}
-use Rattle.tally.specs.Triple.{t_after}
+use Rattle.tally.proofs.Triple.{t_after}
 use Rattle.arrival.specs.declared.Arc.{Arc}
 use Rattle.arrival.specs.Arrival.{arc_of, clearance_at, sub_step, crossing_from, first_crossing, end_value, crossing_time, hop_arrival}
 use Rattle.arrival.specs.RootSearch.{EvaluatesAtMost, grows_pure, grows_then, look_evaluates, clearance_evaluates, search_at_most_200}

@@ -8,7 +8,7 @@ use Rattle.std.specs.Float.Ieee.{binary64, fits, round, lt, le}
 use Rattle.std.specs.Float.Ieee.Fits.{div-fits, round-fits}
 use Rattle.number.specs.Ops.{dec}
 use Rattle.number.specs.Order.{le_through}
-use Rattle.search.specs.Evaluations.{Ends, largest, ends_from_0}
+use Rattle.search.proofs.Evaluations.{Ends, largest, ends_from_0}
 use Rattle.search.specs.declared.Bracket.{Bracket}
 use Rattle.tally.specs.Language.{M, if◌then◌else◌}
 use Rattle.arrival.specs.Arrival.{advanced, at_start, sub_step, crossing_from, first_crossing}

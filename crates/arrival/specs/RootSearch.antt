@@ -10,10 +10,10 @@ use Rattle.vector.specs.declared.DVec3.{DVec3}
 use Rattle.flight.specs.Arc.{drop_time, drop_fits}
 use Rattle.look.specs.Tree.{Oracle, run, looks}
 use Rattle.search.specs.Search.{find_root}
-use Rattle.search.specs.Evaluations.{Counts, Every, Ends, Within, every_at_most_200, every_within}
+use Rattle.search.proofs.Evaluations.{Counts, Every, Ends, Within, every_at_most_200, every_within}
 use Rattle.search.specs.declared.Bracket.{Bracket}
 use Rattle.tally.specs.Language.{M, Log, Outcome, goes, stops, pure, look, evaluate, in_m, ◌>>=◌}
-use Rattle.tally.specs.Triple.{Past, spot, After, Triple, of_run, of_every_run, t_any, t_after, t_bind, t_pure, t_look, t_evaluation}
+use Rattle.tally.proofs.Triple.{Past, spot, After, Triple, of_run, of_every_run, t_any, t_after, t_bind, t_pure, t_look, t_evaluation}
 use Rattle.arrival.specs.declared.Arc.{Arc}
 use Rattle.arrival.specs.Arrival.{clearance, clearance_at, arc_of, end_value, guess_in, ending_at, crossing_time}
 

@@ -21,7 +21,7 @@ use Rattle.surface.specs.Surface.{green}
 use Rattle.aero.specs.Aero.{tour}
 use Rattle.look.specs.Rect.{is_double}
 use Rattle.look.specs.Tree.{Spot}
-use Rattle.look.specs.Within.{and_parts}
+use Rattle.look.proofs.Within.{and_parts}
 use Rattle.octets.specs.Octets.{little}
 use Rattle.course.specs.Sheet.{Accepted, first, covers, restitution_of, law_of, surface_of, patch_sample, plain_sample, course_of}
 use Rattle.shot.specs.Physics.{physics_new}

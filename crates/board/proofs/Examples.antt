@@ -13,7 +13,7 @@ use Rattle.state.specs.declared.Termination.TheVariants.{Rest, MaxTime, MaxImpac
 use Rattle.board.specs.declared.Entry.{Entry}
 use Rattle.board.specs.Rules.{key_of, by_first, moving, is_before, near, used, answer_of, insert}
 use Rattle.board.specs.Words.{All, Distinct, sort}
-use Rattle.board.specs.Alike.{Fair, Alike, alike}
+use Rattle.board.proofs.Alike.{Fair, Alike, alike}
 use Rattle.board.proofs.Lists.{one_most}
 use Rattle.board.specs.Board.{empty_board, enter_of, new_of, shots}
 

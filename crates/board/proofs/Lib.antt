@@ -1,2 +1,5 @@
 pub mod Lists
 pub mod Examples
+pub mod Alike
+pub mod Listing
+pub mod Tests

@@ -14,7 +14,7 @@ use Rattle.board.specs.declared.Board.{Board}
 use Rattle.board.specs.Rules.{is_before, insert, holds, one, used, answer_of}
 use Rattle.board.specs.Board.{shots, listing, with_listing, with_entry, answered, enter_of}
 use Rattle.board.specs.Sorting.{insert-length}
-use Rattle.board.specs.Tests.{Tested, no_bay, far, repeated, full, taken, tested}
+use Rattle.board.proofs.Tests.{Tested, no_bay, far, repeated, full, taken, tested}
 use Rattle.board.specs.Inner.{place_in, inserted_at, Shows}
 
 -- the first n entries from i on, taken apart

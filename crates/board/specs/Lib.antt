@@ -5,7 +5,4 @@ pub mod Words
 pub mod Sorting
 pub mod Comparing
 pub mod Keys
-pub mod Tests
 pub mod Bays
-pub mod Listing
-pub mod Alike

@@ -12,7 +12,7 @@ use Rattle.std.specs.Float.Ieee.Fits.{eq→eqb}
 use Rattle.fields.specs.Fields.{whole_of, written}
 use Rattle.board.specs.Rules.{answer_of}
 use Rattle.board.specs.Board.{listing, answered, given, new_of, enter_of, place_of}
-use Rattle.board.specs.Listing.{enter_answers, place_answers}
+use Rattle.board.proofs.Listing.{enter_answers, place_answers}
 use Rattle.board.specs.declared.Board.{Board}
 use Rattle.layout.specs.Layout.{board_length, number_of, termination_of, board_fields}
 use Rattle.layout.specs.RoundTrip.{Ended, Numbers, Held, written_length, written_ok, written_back, new_held, enter_held}

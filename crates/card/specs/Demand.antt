@@ -13,7 +13,7 @@ use Rattle.std.proofs.Math.Seq.{drop_at}
 use borrow.Author.Tests.{le-leb, ne_eqb}
 use Rattle.vector.specs.Vec.{vec}
 use Rattle.state.specs.declared.BallState.{BallState}
-use Rattle.look.specs.Within.{AgreeIn}
+use Rattle.look.proofs.Within.{AgreeIn}
 use Rattle.look.specs.declared.Rect.{Rect}
 use Rattle.octets.specs.Octets.{little}
 use Rattle.course.specs.Sheet.{Accepted, course_of}

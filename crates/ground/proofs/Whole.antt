@@ -36,7 +36,7 @@ use Rattle.look.specs.Tree.{Oracle, look_tree}
 use Rattle.look.specs.declared.Look.{Look}
 use Rattle.look.specs.declared.Look.TheVariants.{Saw}
 use Rattle.tally.specs.Language.{M, stops, ◌>>=◌, pure, tested, look, test}
-use Rattle.tally.specs.Words.{look_saw, test_ok, test_bad}
+use Rattle.tally.proofs.Words.{look_saw, test_ok, test_bad}
 use Rattle.roll.specs.Roll.{whole_phase}
 use Rattle.ground.specs.Step.{step_out, step_by, step_run, step_made, impact_by, impact_run, impact_made}
 use Rattle.ground.specs.Settle.{first_log}

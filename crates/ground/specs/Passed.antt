@@ -8,7 +8,7 @@ use Rattle.std.proofs.Common.{eqb-true}
 use Rattle.std.proofs.lemmas.Bool.{eqb-false}
 use Rattle.number.specs.Ops.{if◌then◌else◌, dec}
 use Rattle.number.specs.Number.{within_of}
-use Rattle.look.specs.Within.{and_parts}
+use Rattle.look.proofs.Within.{and_parts}
 use Rattle.shot.specs.Tests.{step_physics_ok, physics_ok, input_test}
 use Rattle.shot.specs.Passed.{Passes, input_passes, input_most}
 use Rattle.shot.specs.declared.Shot.{Shot}

@@ -30,8 +30,8 @@ use Rattle.board.specs.Board.{listing, with_listing, empty_entry, empty_board, a
 use Rattle.board.specs.Words.{All, Near}
 use Rattle.board.specs.Sorting.{all_insert}
 use Rattle.board.specs.Bays.{InBay}
-use Rattle.board.specs.Tests.{Tested, no_bay, far, repeated, full, taken, tested, is_near_lem}
-use Rattle.board.specs.Listing.{Sound, with_listing_lem, with_sound}
+use Rattle.board.proofs.Tests.{Tested, no_bay, far, repeated, full, taken, tested, is_near_lem}
+use Rattle.board.proofs.Listing.{Sound, with_listing_lem, with_sound}
 use Rattle.layout.specs.Layout.{width, start, board_length, number_of, termination_of, least_at, entry_ok, entry_at}
 use Rattle.layout.specs.Layout.{entries_ok, entries_at, board_ok, board_at, entry_fields, entries_fields, board_fields}
 

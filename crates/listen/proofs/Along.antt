@@ -13,7 +13,7 @@ use lib.Ieee.{Float, nan, lt}
 use Rattle.number.specs.Ops.{if◌then◌else◌}
 use Rattle.listen.specs.Listen.{near, walk, heard_marks, contact_marks, count}
 use Rattle.listen.specs.Inner.{front_of, Walked}
-use Rattle.listen.specs.Walking.{walking, heard_length}
+use Rattle.listen.proofs.Walking.{walking, heard_length}
 use Rattle.listen.specs.declared.Mark.{Mark}
 use Rattle.listen.specs.declared.Mark.TheVariants.{Paired, HeardOnly, ComputedOnly}
 

@@ -1,3 +1,9 @@
 pub mod Laws
 pub mod Along
 pub mod Made
+pub mod Listened
+pub mod Earlier
+pub mod Times
+pub mod Accepted
+pub mod Marking
+pub mod Walking

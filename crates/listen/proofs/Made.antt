@@ -10,8 +10,8 @@ use lib.Ieee.{Float}
 use borrow.Author.Tests.{eq-eqb, ne_eqb}
 use Rattle.listen.specs.Listen.{contact_times, walk, heard_marks, contact_marks, count, refusal_of, listened, heard_of, marked, listen_of}
 use Rattle.listen.specs.Inner.{Walked}
-use Rattle.listen.specs.Accepted.{accepted}
-use Rattle.listen.specs.Walking.{firsts_length, walking, heard_length, contact_length, heard_total, contact_total, pairs_same}
+use Rattle.listen.proofs.Accepted.{accepted}
+use Rattle.listen.proofs.Walking.{firsts_length, walking, heard_length, contact_length, heard_total, contact_total, pairs_same}
 
 -- two runs of stores, one behind the other, from the front
 runs : (l h c : List ℕ) → length h + length c ≤ length l → sets (sets l 0 h) (length h) c ≡ (h ++ c) ++ drop (length h + length c) l

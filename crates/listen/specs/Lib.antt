@@ -1,9 +1,3 @@
 pub mod Listen
 pub mod Inner
-pub mod Accepted
-pub mod Times
-pub mod Walking
 pub mod Turns
-pub mod Earlier
-pub mod Marking
-pub mod Listened

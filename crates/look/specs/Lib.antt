@@ -1,5 +1,3 @@
 pub mod Rect
 pub mod Tree
 pub mod Agree
-pub mod Within
-pub mod Resume

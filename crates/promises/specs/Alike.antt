@@ -16,11 +16,12 @@ use Rattle.aero.specs.Aero.{from_spin_vector}
 use Rattle.aero.specs.declared.BallModel.{BallModel}
 use Rattle.look.specs.Rect.{no_rect}
 use Rattle.look.specs.Tree.{Made, Tree, done, look as look_node, step, Oracle, Spot, did, exec, seen, bind}
-use Rattle.look.specs.Agree.{rect_from, exec_is}
+use Rattle.look.specs.Agree.{rect_from}
+use Rattle.look.proofs.Agree.{exec_is}
 use Rattle.tally.specs.Language.{M, Log, Outcome, goes, stops, Ran, onward, ◌>>=◌, if◌then◌else◌, pure, when, Pass, again, over, loop}
 use Rattle.tally.specs.Language.{look, mark, truncate, push_point, steps_left}
 use Rattle.tally.specs.Times.{is_late}
-use Rattle.tally.specs.Triple.{Past, past, fresh, After, Reached, reach, reaches, reach_is, t_any}
+use Rattle.tally.proofs.Triple.{Past, past, fresh, After, Reached, reach, reaches, reach_is, t_any}
 use Rattle.tally.specs.declared.Conditions.{Conditions}
 use Rattle.arrival.specs.Arrival.{clearance, clearance_at, first_crossing, crossing_time, placed, hop_arrival}
 use Rattle.arrival.specs.FirstCrossing.{IfSome}

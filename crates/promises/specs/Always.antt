@@ -7,8 +7,8 @@ use Rattle.state.specs.declared.Phase.TheVariants.{Hop as InHop}
 use Rattle.surface.specs.declared.GroundSample.{GroundSample}
 use Rattle.look.specs.Tree.{Oracle, Spot}
 use Rattle.tally.specs.Language.{M, Pass, again, over, look, test, push_point, push_contact}
-use Rattle.tally.specs.Triple.{Past, spot, saw_at, missed_at, passed_by, pointed, touched, cut_to, OnWith, Triple}
-use Rattle.tally.specs.Triple.{t_after, t_bind, t_if, t_same, t_look, t_test, t_point, t_contact, t_mark, t_truncate, t_left, t_loop}
+use Rattle.tally.proofs.Triple.{Past, spot, saw_at, missed_at, passed_by, pointed, touched, cut_to, OnWith, Triple}
+use Rattle.tally.proofs.Triple.{t_after, t_bind, t_if, t_same, t_look, t_test, t_point, t_contact, t_mark, t_truncate, t_left, t_loop}
 use Rattle.tally.specs.declared.Conditions.{Conditions}
 use Rattle.hop.specs.Hop.{Air, hop_step, hop_from, hop}
 use Rattle.hop.specs.declared.Flight.{Flight}

@@ -9,7 +9,7 @@ use Rattle.number.specs.Against0.{StepLength}
 use Rattle.state.specs.declared.BallState.{BallState}
 use Rattle.state.specs.State.{state_ok}
 use Rattle.search.specs.Search.{find_root}
-use Rattle.search.specs.Evaluations.{Within}
+use Rattle.search.proofs.Evaluations.{Within}
 use Rattle.search.specs.declared.Bracket.{Bracket}
 use Rattle.slide.specs.Slide.{time_at_threshold}
 use Rattle.slide.specs.declared.Turning.{Turning}

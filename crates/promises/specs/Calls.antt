@@ -11,12 +11,12 @@ use Rattle.state.specs.State.{state_ok}
 use Rattle.aero.specs.declared.BallModel.{BallModel}
 use Rattle.look.specs.Rect.{no_rect, spot_ok}
 use Rattle.look.specs.Tree.{Oracle, Tree, Did, run, exec}
-use Rattle.look.specs.Agree.{exec_is}
+use Rattle.look.proofs.Agree.{exec_is}
 use Rattle.sheet.specs.Sheet.{header_ok, surface_ok, patch_ok, surfaces, patches, all}
 use Rattle.course.specs.Sheet.{answer_of, course_of, height_of}
 use Rattle.course.specs.declared.HeightOut.{HeightOut}
 use Rattle.tally.specs.Language.{M, look, test, Log, Outcome, goes, stops, Ran}
-use Rattle.tally.specs.Triple.{Past, After, Triple, of_run, t_bind, t_then, t_pure, t_look, t_test}
+use Rattle.tally.proofs.Triple.{Past, After, Triple, of_run, t_bind, t_then, t_pure, t_look, t_test}
 use Rattle.shot.specs.Tests.{step_physics_ok, ball_ok, landing_ok}
 use Rattle.ground.specs.Tests.{step_test, impact_test}
 use Rattle.ground.specs.Settle.{first_log}

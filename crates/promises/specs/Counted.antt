@@ -15,10 +15,10 @@ use Rattle.state.specs.declared.BallState.{BallState}
 use Rattle.state.specs.declared.Phase.{Phase}
 use Rattle.state.specs.declared.Phase.TheVariants.{Hop as InHop}
 use Rattle.surface.specs.declared.GroundSample.{GroundSample}
-use Rattle.search.specs.Evaluations.{Counts, every_at_most_200}
+use Rattle.search.proofs.Evaluations.{Counts, every_at_most_200}
 use Rattle.search.specs.declared.Bracket.{Bracket}
 use Rattle.look.specs.Rect.{spot_ok}
-use Rattle.look.specs.Resume.{steps as steps_of, steps_bind}
+use Rattle.look.proofs.Resume.{steps as steps_of, steps_bind}
 use Rattle.look.specs.Tree.{Made as Step, Oracle, run, bind, answer}
 use Rattle.course.specs.Sheet.{course_of}
 use Rattle.records.specs.Records.{Put, full, put, pushed}

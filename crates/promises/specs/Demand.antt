@@ -12,7 +12,7 @@ use Rattle.std.proofs.lemmas.Bool.{eqb-false}
 use Rattle.look.specs.Rect.{no_rect}
 use Rattle.look.specs.Agree.{All, rect_from}
 use Rattle.look.specs.Tree.{Spot, exec}
-use Rattle.look.specs.Within.{Within, AgreeIn, Inside, agree_within, rect_of_looks, holds_every_look, least_rectangle, no_look_zero}
+use Rattle.look.proofs.Within.{Within, AgreeIn, Inside, agree_within, rect_of_looks, holds_every_look, least_rectangle, no_look_zero}
 use Rattle.look.specs.declared.Rect.{Rect}
 use Rattle.course.specs.Sheet.{Accepted, answer_of, course_of}
 use Rattle.tally.specs.Language.{if◌then◌else◌}

@@ -16,7 +16,7 @@ use Rattle.tally.specs.Times.{is_late}
 use Rattle.tally.specs.Language.{M, Log, Outcome, goes, stops, onward, pure, if◌then◌else◌, look, push_point}
 use Rattle.tally.specs.Language.{push_contact, mark, truncate, steps_left, loop, Pass, again, over}
 use Rattle.tally.specs.declared.Conditions.{Conditions}
-use Rattle.tally.specs.Triple.{t_after, t_stop, t_any}
+use Rattle.tally.proofs.Triple.{t_after, t_stop, t_any}
 use Rattle.arrival.specs.RootSearch.{Goes, Gives, given, gives_pure, gives_then, gives_bind}
 use Rattle.hop.specs.Hop.{Air, air_of, flight, hop_step, hop_from, hop}
 use Rattle.hop.specs.declared.Flight.{Flight}

@@ -18,7 +18,7 @@ use Rattle.board.specs.declared.Entry.{Entry}
 use Rattle.board.specs.Rules.{holds, used}
 use Rattle.board.specs.Board.{listing, empty_board, enter_of}
 use Rattle.board.specs.Words.{Near, after, accepted}
-use Rattle.board.specs.Listing.{never_10, made_taken}
+use Rattle.board.proofs.Listing.{never_10, made_taken}
 use Rattle.layout.specs.Layout.{termination_of}
 use Rattle.layout.specs.Sent.{Sent, is_end, sent_of}
 

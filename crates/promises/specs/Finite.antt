@@ -16,10 +16,10 @@ use Rattle.state.specs.declared.Phase.TheVariants.{Hop as InHop, Slide as InSlid
 use Rattle.vector.specs.declared.DVec3.{DVec3}
 use Rattle.aero.specs.declared.BallModel.{BallModel}
 use Rattle.look.specs.Rect.{no_rect}
-use Rattle.look.specs.Agree.{exec_is}
+use Rattle.look.proofs.Agree.{exec_is}
 use Rattle.look.specs.Tree.{Tree, Oracle, Did, exec, run, looks}
-use Rattle.look.specs.Resume.{steps as steps_of, made as made_by, steps_are}
-use Rattle.look.specs.Within.{and_parts, coord_fin}
+use Rattle.look.proofs.Resume.{steps as steps_of, made as made_by, steps_are}
+use Rattle.look.proofs.Within.{and_parts, coord_fin}
 use Rattle.course.specs.Sheet.{Accepted, answer_of, course_of}
 use Rattle.records.specs.Records.{Records, null, flat, shown}
 use Rattle.shot.specs.declared.Shot.{Shot}
@@ -33,7 +33,7 @@ use Rattle.ground.specs.Tests.{refusal_of}
 use Rattle.ground.specs.Passed.{settle_passes}
 use Rattle.ground.specs.Settle.{Result, answer_by, how_by, rest_by, report_of, conditions_of, first_log, run_of, settle_of}
 use Rattle.promises.specs.Samples.{Sampled, sampled, number_finite, clearance_finite}
-use Rattle.tally.specs.Triple.{Past, past, After, misses, of_run, of_every_run}
+use Rattle.tally.proofs.Triple.{Past, past, After, misses, of_run, of_every_run}
 use Rattle.promises.specs.Terms.{Answer, Each, PointOf, Clear, ContactOf, Failed}
 use Rattle.promises.specs.Work.{train_works}
 use Rattle.promises.specs.Keeps.{Setting, Sound, Why, contacts_full, points_full, failed, limit_reached, Stops, at_ok}

@@ -6,7 +6,7 @@ use Rattle.std.specs.Float.{binary64}
 use Rattle.std.specs.Float.Ieee.{fits}
 use Rattle.state.specs.declared.Termination.TheVariants.{Rest, MaxImpacts}
 use Rattle.look.specs.Tree.{Made}
-use Rattle.look.specs.Resume.{made as made_by}
+use Rattle.look.proofs.Resume.{made as made_by}
 use Rattle.course.specs.Sheet.{course_of}
 use Rattle.records.specs.Records.{Records, recs}
 use Rattle.shot.specs.declared.Shot.{Shot}

@@ -5,7 +5,7 @@ use Rattle.state.specs.declared.BallState.{BallState}
 use Rattle.state.specs.declared.Phase.{Phase}
 use Rattle.surface.specs.declared.GroundSample.{GroundSample}
 use Rattle.look.specs.Rect.{is_double, spot_ok}
-use Rattle.look.specs.Within.{and_parts}
+use Rattle.look.proofs.Within.{and_parts}
 use Rattle.state.specs.State.{coord_ok, vec_ok, state_ok}
 use Rattle.look.specs.Tree.{Made, Tree, done, look as look_node, step, Oracle, Spot, seen, run}
 use Rattle.records.specs.Records.{Records}
@@ -13,8 +13,8 @@ use Rattle.tally.specs.Language.{M, Log, Lent, Outcome, goes, stops, Ran, evalua
 use Rattle.tally.specs.Language.{look, test, push_point, push_contact, mark, truncate, make_step, steps_left, when}
 use Rattle.tally.specs.declared.Conditions.{Conditions}
 use Rattle.promises.specs.Terms.{Each, Ok, OverDoubles, under, PointOf, SampleOf, ContactOf, GivenBy, Follows, Sought, Failed, of_spot, of_state}
-use Rattle.tally.specs.Triple.{Past, spot, missed_at, evaluated_once, After, reach, reaches, Triple}
-use Rattle.tally.specs.Triple.{t_look, t_test, t_point, t_contact, t_mark, t_truncate, t_step, t_left, t_when}
+use Rattle.tally.proofs.Triple.{Past, spot, missed_at, evaluated_once, After, reach, reaches, Triple}
+use Rattle.tally.proofs.Triple.{t_look, t_test, t_point, t_contact, t_mark, t_truncate, t_step, t_left, t_when}
 
 pub each_more : (P : List Float → Type 0) (rs : Records) (r : List Float) → Each P rs → P r → Each P (rs ++ (r ∷ []))
 each_more P [] r h p = (p, tt)

@@ -17,7 +17,7 @@ use Rattle.state.specs.declared.BallState.{BallState}
 use Rattle.state.specs.State.{state_ok}
 use Rattle.surface.specs.declared.GroundSample.{GroundSample}
 use Rattle.aero.specs.Aero.{radius_of}
-use Rattle.search.specs.Evaluations.{largest}
+use Rattle.search.proofs.Evaluations.{largest}
 use Rattle.slide.specs.RootSearch.{slide_time_within}
 use Rattle.rolling.specs.Times.{contact_step_onward}
 use Rattle.contact.specs.Contact.{onto_of}
@@ -27,7 +27,7 @@ use Rattle.tally.specs.Language.{M, onward, ◌>>=◌, if◌then◌else◌, when
 use Rattle.tally.specs.declared.Conditions.{Conditions}
 use Rattle.arrival.specs.declared.Arc.{Arc}
 use Rattle.arrival.specs.Arrival.{clearance, hop_arrival}
-use Rattle.tally.specs.Triple.{t_bind, t_test, t_step, t_made}
+use Rattle.tally.proofs.Triple.{t_bind, t_test, t_step, t_made}
 use Rattle.arrival.specs.RootSearch.{at_most_200_looks, Gives, gives_pure, gives_then, gives_bind}
 use Rattle.arrival.specs.FirstCrossing.{IfSome}
 use Rattle.arrival.specs.Evaluations.{arrival_at_most_200}

@@ -45,7 +45,7 @@ use Rattle.strike.specs.declared.Struck.{Struck}
 use Rattle.strike.specs.declared.Flown.{Flown}
 use Rattle.strike.specs.declared.Flown.TheVariants.{Hop, Ground}
 use Rattle.train.specs.Train.{last_impact, to_ground, train_from_by, train_from, train}
-use Rattle.tally.specs.Triple.{t_made, t_evaluation, evaluated_once, Past, OnWith, Triple, t_before, t_after, t_bind, t_then, t_fact, t_know, t_of, t_if, t_pure, t_same, t_loop}
+use Rattle.tally.proofs.Triple.{t_made, t_evaluation, evaluated_once, Past, OnWith, Triple, t_before, t_after, t_bind, t_then, t_fact, t_know, t_of, t_if, t_pure, t_same, t_loop}
 use Rattle.promises.specs.Terms.{Answer, SampleOf, Ok, OverDoubles, under, Placed, GivenBy, struck_at, arc_from, end_from, Grounded, at_once, after_hop_lem}
 use Rattle.promises.specs.Terms.{impact, hop_step_lem, arrival, drop as dropping, ground_step_lem, on_path, below_step}
 use Rattle.promises.specs.Keeps.{Setting, Keeps, At, Within, at_ok, at_frame, t_given}

@@ -15,8 +15,8 @@ use Rattle.state.specs.State.{coord_ok, state_ok}
 use Rattle.look.specs.Rect.{no_rect}
 use Rattle.look.specs.Tree.{Oracle, exec}
 use Rattle.records.specs.Records.{Records, shown}
-use Rattle.look.specs.Resume.{steps as steps_of}
-use Rattle.look.specs.Within.{Edges, and_parts, coord_fin, edges_ok_lem, no_rect_ok}
+use Rattle.look.proofs.Resume.{steps as steps_of}
+use Rattle.look.proofs.Within.{Edges, and_parts, coord_fin, edges_ok_lem, no_rect_ok}
 use Rattle.look.specs.declared.Rect.{Rect}
 use Rattle.course.specs.Sheet.{course_of}
 use Rattle.shot.specs.declared.Shot.{Shot}
@@ -32,7 +32,7 @@ use Rattle.train.specs.Train.{to_ground, train_from_by, train}
 use Rattle.tally.specs.Language.{push_point, steps_left}
 use Rattle.ground.specs.Passed.{refused_by, settle_sheet, settle_passes}
 use Rattle.ground.specs.Settle.{Result, no_state, report_of, conditions_of, run_of, settle_of}
-use Rattle.tally.specs.Triple.{misses, Triple, t_point}
+use Rattle.tally.proofs.Triple.{misses, Triple, t_point}
 use Rattle.promises.specs.Terms.{Answer, Each, OverDoubles, PointOf, Clear, ContactOf, Failed}
 use Rattle.promises.specs.Keeps.{own_spot, not_both}
 use Rattle.promises.specs.Finite.{Finite, StateFinite, state_finite, point_finite, point_clear, each_map, contact_finite, finite_shown, settle_leaves}

@@ -8,12 +8,12 @@ use Rattle.std.specs.Float.Ieee.{fits}
 use Rattle.std.specs.Float.Ieee.Bits.{is_true}
 use Rattle.state.specs.State.{state_ok}
 use Rattle.look.specs.Tree.{Oracle, Tree, run, looks}
-use Rattle.look.specs.Resume.{made as made_by}
+use Rattle.look.proofs.Resume.{made as made_by}
 use Rattle.course.specs.Sheet.{course_of}
 use Rattle.records.specs.Records.{Records, recs}
 use Rattle.shot.specs.declared.Shot.{Shot}
 use Rattle.tally.specs.Language.{Ran, Outcome, goes, stops, contact_width, point_width}
-use Rattle.tally.specs.Triple.{Past, past, After, misses, of_run}
+use Rattle.tally.proofs.Triple.{Past, past, After, misses, of_run}
 use Rattle.roll.specs.declared.Ending.{Ending}
 use Rattle.ground.specs.Passed.{settle_passes}
 use Rattle.ground.specs.Settle.{Result, how_by, rest_by, report_of, conditions_of, first_log, run_of, settle_of}

@@ -10,7 +10,7 @@ use Rattle.std.specs.Float.Ieee.Back.{round_whole}
 use Rattle.number.specs.Ops.{◌⊕◌, ◌⊖◌, ◌⊗◌, dec}
 use Rattle.number.specs.Rounding.{round_between, about_size, about_finite, add_mono, sub_mono}
 use Rattle.look.specs.Rect.{is_double, spot_ok}
-use Rattle.look.specs.Within.{and_parts}
+use Rattle.look.proofs.Within.{and_parts}
 use Rattle.state.specs.State.{coord_ok}
 use Rattle.number.specs.Number.{within_of, about_of, finite_of}
 use Rattle.number.specs.Order.{le_through, within_of_lem, within_lo, within_hi, within_finite, neg_finite}

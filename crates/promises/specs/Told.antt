@@ -15,7 +15,7 @@ use Rattle.look.specs.Tree.{Oracle}
 use Rattle.records.specs.Records.{Records}
 use Rattle.tally.specs.Language.{point_of, contact_of, push_contact}
 use Rattle.tally.specs.declared.Conditions.{Conditions}
-use Rattle.tally.specs.Triple.{Past, Triple, t_before, t_after, t_bind, t_then, t_if, t_pure, t_point, t_contact, t_mark, t_truncate}
+use Rattle.tally.proofs.Triple.{Past, Triple, t_before, t_after, t_bind, t_then, t_if, t_pure, t_point, t_contact, t_mark, t_truncate}
 use Rattle.hop.specs.declared.Way.{Way}
 use Rattle.hop.specs.declared.Way.TheVariants.{Arrived, Late}
 use Rattle.roll.specs.declared.Ending.{Ending}

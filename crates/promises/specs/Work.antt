@@ -6,7 +6,7 @@ use Rattle.vector.specs.declared.DVec3.{DVec3}
 use Rattle.state.specs.declared.BallState.{BallState}
 use Rattle.look.specs.Tree.{Oracle}
 use Rattle.tally.specs.Language.{M}
-use Rattle.tally.specs.Triple.{Past, Triple, t_before, t_after, t_both, t_bind, t_of, t_fact, t_if, t_same, t_when, t_look, t_step, t_made}
+use Rattle.tally.proofs.Triple.{Past, Triple, t_before, t_after, t_both, t_bind, t_of, t_fact, t_if, t_same, t_when, t_look, t_step, t_made}
 use Rattle.tally.specs.declared.Conditions.{Conditions}
 use Rattle.arrival.specs.declared.Arc.{Arc}
 use Rattle.arrival.specs.Arrival.{clearance, hop_arrival}

@@ -20,7 +20,7 @@ use Rattle.aero.specs.Aero.{radius_of}
 use Rattle.rk4.specs.declared.Motion.{Motion}
 use Rattle.contact.specs.Contact.{slip_of, locked_of}
 use Rattle.search.specs.Search.{Counted}
-use Rattle.search.specs.Evaluations.{Within, largest}
+use Rattle.search.proofs.Evaluations.{Within, largest}
 use Rattle.slide.specs.declared.Patch.{Patch}
 use Rattle.rolling.specs.declared.Stepped.{Stepped}
 use Rattle.slide.specs.declared.Slid.{Slid}

@@ -1,1 +1,5 @@
 pub mod Walks
+pub mod Promises
+pub mod AsMap
+pub mod Counted
+pub mod Places

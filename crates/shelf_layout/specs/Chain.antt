@@ -8,8 +8,8 @@ use Rattle.shelf.specs.declared.Saved.{Saved}
 use Rattle.shelf.specs.declared.Shelf.{Shelf}
 use Rattle.shelf.specs.Map.{Map, empty_map, Call, Out, out, told, call, map_outs}
 use Rattle.shelf.specs.Shelf.{empty_shelf, save_of, drop_of}
-use Rattle.shelf.specs.Places.{Decided, decide}
-use Rattle.shelf.specs.AsMap.{Held, Same, same_empty, shelf_call, agrees, save_refused, drop_refused, all_known, map_known}
+use Rattle.shelf.proofs.Places.{Decided, decide}
+use Rattle.shelf.proofs.AsMap.{Held, Same, same_empty, shelf_call, agrees, save_refused, drop_refused, all_known, map_known}
 use Rattle.shelf_layout.specs.Layout.{shelf_fields}
 use Rattle.shelf_layout.specs.Doors.{answered, shelf_new_door_of, changed, shelf_save_door_of, shelf_return_door_of, shelf_drop_door_of}
 use Rattle.shelf_layout.specs.RoundTrip.{written_length, written_ok, written_back}

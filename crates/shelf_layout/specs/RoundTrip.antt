@@ -10,8 +10,8 @@ use Rattle.fields.specs.WholeBack.{nat_whole, whole_is_whole}
 use Rattle.state.specs.declared.BallState.{BallState}
 use Rattle.shelf.specs.Map.{is_letter}
 use Rattle.shelf.specs.Shelf.{padded, sound_name, sound}
-use Rattle.shelf.specs.Places.{both, All, sound_read}
-use Rattle.shelf.specs.AsMap.{Wide, Held}
+use Rattle.shelf.proofs.Places.{both, All, sound_read}
+use Rattle.shelf.proofs.AsMap.{Wide, Held}
 use Rattle.shelf.specs.declared.Place.{Place}
 use Rattle.shelf.specs.declared.Shelf.{Shelf}
 use Rattle.shelf_layout.specs.Layout.{byte_of, place_at, places_at, shelf_at, are_bytes, names_ok, shelf_ok, place_fields, places_fields, shelf_fields}

@@ -7,7 +7,7 @@ use Rattle.number.specs.Ops.{◌⊕◌, ◌⊖◌, ◌⊗◌, ◌⊘◌, dec}
 use Rattle.number.specs.Number.{max_of}
 use Rattle.rk4.specs.declared.Motion.{Motion}
 use Rattle.vector.specs.Vec.{zero3, vdivs, vlength, same_vec}
-use Rattle.search.specs.Evaluations.{Within, largest, ends_from_0, answer_within, counted_at_most_200}
+use Rattle.search.proofs.Evaluations.{Within, largest, ends_from_0, answer_within, counted_at_most_200}
 use Rattle.slide.specs.declared.Patch.{Patch}
 use Rattle.slide.specs.declared.Slid.{Slid}
 use Rattle.slide.specs.declared.Turning.{Turning}

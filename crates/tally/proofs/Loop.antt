@@ -4,7 +4,7 @@ use Rattle.look.specs.Tree.{Oracle, exec}
 use Rattle.tally.specs.declared.Conditions.{Conditions}
 use Rattle.tally.specs.Language.{M, Outcome, goes, stops, pure, stop_with, ◌>>=◌, steps_left, Pass, again, loop}
 use Rattle.tally.specs.Inner.{Place, log_at, Runs, RunsOn, Reached, Bounded, over_by}
-use Rattle.tally.specs.Words as Words
+use Rattle.tally.proofs.Words as Words
 use Rattle.tally.proofs.Reached.{begun, ended, on, came, said, beyond, last}
 
 -- the whole loop, with the steps that are left of step_limit

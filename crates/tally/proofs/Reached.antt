@@ -16,7 +16,7 @@ use Rattle.tally.specs.Language.{contact_width, contact_of, make_step, look, tes
 use Rattle.tally.specs.Inner.{Place, place, log_at, RunsBy, Runs, RunsOn, Reached, MakesStep, LooksAt, Tests, PushesPoint, PushesIf, PushesContact}
 use Rattle.tally.specs.Inner.{Truncates}
 use Rattle.tally.specs.Lists.{stay, grow}
-use Rattle.tally.specs.Words as Words
+use Rattle.tally.proofs.Words as Words
 use Rattle.tally.specs.declared.Tally.{Tally}
 use Rattle.tally.specs.declared.Looked.{Looked}
 use Rattle.tally.specs.declared.Looked.TheVariants.{Off, Saw}

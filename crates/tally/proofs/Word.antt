@@ -5,7 +5,8 @@ use Rattle.state.specs.State.{state_ok}
 use Rattle.state.specs.declared.BallState.{BallState}
 use Rattle.state.specs.declared.Phase.{Phase}
 use Rattle.surface.specs.declared.GroundSample.{GroundSample}
-use Rattle.look.specs.Tree.{Oracle, exec, Did, did, answer, widen_where, ends, look_tree}
+use Rattle.look.specs.Tree.{Oracle, exec, Did, did, answer, widen_where, look_tree}
+use Rattle.look.proofs.Tree.{ends}
 use Rattle.look.specs.Rect.{spot_ok}
 use Rattle.look.specs.declared.Rect.{Rect}
 use Rattle.look.specs.declared.Look.{Look}

@@ -1,7 +1,7 @@
 -- One look, and y less the height.
 use borrow.Author.Rules.{rules}
 use Rattle.look.specs.Tree.{exec}
-use Rattle.tally.specs.Words.{look_saw, look_off}
+use Rattle.tally.proofs.Words.{look_saw, look_off}
 use mathlib.Core.Path.{refl}
 use Rattle.arrival.specs.Arrival.{clearance}
 use Rattle.arrival.proofs.clearance.Statement.{statement}

@@ -2,7 +2,7 @@
 use borrow.Author.Rules.{rules}
 use native.Mathlib.Omega.{arith}
 use mathlib.Core.Path.{ap}
-use Rattle.tally.specs.Words.{went, halted, look_saw, look_off}
+use Rattle.tally.proofs.Words.{went, halted, look_saw, look_off}
 use Rattle.arrival.specs.Arrival.{crossing_time}
 use Rattle.arrival.specs.Inner.{value_by}
 use Rattle.arrival.proofs.Turns.{unsearched}

@@ -3,7 +3,7 @@ use borrow.Author.Rules.{rules}
 use lib.Ieee.{of_bits, round}
 use mathlib.Core.Path.{ap}
 use Rattle.look.specs.Tree.{exec}
-use Rattle.tally.specs.Words.{went, halted}
+use Rattle.tally.proofs.Words.{went, halted}
 use Rattle.arrival.specs.Arrival.{end_value}
 use Rattle.arrival.specs.Inner.{value_by}
 use Rattle.arrival.proofs.end_value.Statement.{statement}

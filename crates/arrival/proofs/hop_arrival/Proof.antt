@@ -9,7 +9,7 @@ use Rattle.look.specs.Tree.{exec}
 use Rattle.look.specs.declared.Rect.{Rect}
 use Rattle.course.specs.Sheet.{course_of}
 use Rattle.tally.specs.Language.{M, Log, evaluated}
-use Rattle.tally.specs.Words.{went, halted, look_off}
+use Rattle.tally.proofs.Words.{went, halted, look_off}
 use mathlib.Core.Option.{Option, some}
 use Rattle.arrival.specs.Arrival.{hop_arrival}
 use Rattle.arrival.specs.Inner.{value_by, crossing_by}

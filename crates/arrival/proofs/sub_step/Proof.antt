@@ -4,7 +4,7 @@ use lib.Ieee.{of_bits, round}
 use mathlib.Core.Path.{ap}
 use borrow.Author.Tests.{eq-eqb, ne_eqb}
 use Rattle.look.specs.Tree.{exec}
-use Rattle.tally.specs.Words.{went, halted}
+use Rattle.tally.proofs.Words.{went, halted}
 use Rattle.arrival.specs.Arrival.{sub_step}
 use Rattle.arrival.specs.Inner.{value_by}
 use Rattle.arrival.proofs.sub_step.Statement.{statement}

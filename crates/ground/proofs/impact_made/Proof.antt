@@ -5,7 +5,7 @@ use Rattle.look.specs.Rect.{no_rect}
 use Rattle.look.specs.Tree.{exec}
 use Rattle.course.specs.Sheet.{course_of}
 use Rattle.tally.specs.Language.{goes, stops}
-use Rattle.tally.specs.Words.{look_off}
+use Rattle.tally.proofs.Words.{look_off}
 use Rattle.ground.specs.Settle.{first_log}
 use Rattle.ground.specs.Step.{impact_run}
 use Rattle.ground.proofs.Whole.{to_impact, impact_by_lem, impact_hit, failed, passed}

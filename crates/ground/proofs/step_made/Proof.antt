@@ -6,7 +6,7 @@ use Rattle.look.specs.Tree.{exec}
 use Rattle.look.specs.declared.Rect.{Rect}
 use Rattle.course.specs.Sheet.{course_of}
 use Rattle.tally.specs.Language.{M, goes, stops}
-use Rattle.tally.specs.Words.{look_saw, look_off}
+use Rattle.tally.proofs.Words.{look_saw, look_off}
 use Rattle.aero.specs.declared.BallModel.{BallModel}
 use Rattle.ground.specs.Settle.{first_log}
 use Rattle.ground.specs.Step.{step_run}

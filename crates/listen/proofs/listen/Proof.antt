@@ -3,7 +3,7 @@ use native.Mathlib.Omega.{arith}
 use mathlib.Core.Path.{sym, ◌∙◌}
 use lib.ListN.{length}
 use borrow.Author.Rules.{rules}
-use Rattle.listen.specs.Accepted.{Accepted, accepted}
+use Rattle.listen.proofs.Accepted.{Accepted, accepted}
 use Rattle.listen.proofs.Made.{refused, heard_rest, contacts_rest, made}
 use Rattle.listen.proofs.listen.Statement.{statement}
 use Rattle.listen.proofs.listen.Tie as tie

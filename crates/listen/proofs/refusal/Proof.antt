@@ -6,7 +6,7 @@ use lib.ListN.{length}
 use borrow.Author.Rules.{rules}
 use borrow.Author.Tests.{not-true, not-false}
 use Rattle.listen.specs.Listen.{contacts_whole, all_times_ok, tolerance_ok}
-use Rattle.listen.specs.Accepted.{whole_holds, few_heard}
+use Rattle.listen.proofs.Accepted.{whole_holds, few_heard}
 use Rattle.listen.proofs.Laws.{says_8, says_39, says_40, says_41, says_0}
 use Rattle.listen.proofs.refusal.Statement.{statement}
 use Rattle.listen.proofs.refusal.Tie as tie

@@ -7,7 +7,7 @@ use lib.ListN.{length, drop}
 use borrow.Author.Rules.{rules}
 use borrow.Author.Tests.{not-true, not-false}
 use Rattle.listen.specs.Listen.{firsts, in_order, times_ok}
-use Rattle.listen.specs.Walking.{firsts_length}
+use Rattle.listen.proofs.Walking.{firsts_length}
 use Rattle.listen.proofs.Laws.{firsts_at, inside, low, on, all}
 use Rattle.listen.proofs.times_ok.Statement.{statement}
 use Rattle.listen.proofs.times_ok.Tie as tie

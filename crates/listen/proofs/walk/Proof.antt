@@ -7,7 +7,7 @@ use lib.Ieee.{Float, nan}
 use lib.ListN.{length, get_or, length-set}
 use borrow.Author.Rules.{rules}
 use Rattle.listen.specs.Listen.{contact_times}
-use Rattle.listen.specs.Walking.{firsts_length}
+use Rattle.listen.proofs.Walking.{firsts_length}
 use Rattle.listen.proofs.Laws.{firsts_at, both, either}
 use Rattle.listen.proofs.Along.{Along, Room, Rest, starts, turn_paired, turn_heard, turn_computed, ends}
 use Rattle.listen.proofs.walk.Statement.{statement}

@@ -9,7 +9,7 @@ use Rattle.number.specs.Number.{within_of}
 use Rattle.number.specs.Order.{within_lo}
 use Rattle.number.specs.Against0.{not_below}
 use Rattle.listen.specs.Listen.{time_ok, in_order, times_ok}
-use Rattle.listen.specs.Accepted.{and_left, and_right}
+use Rattle.listen.proofs.Accepted.{and_left, and_right}
 
 abbrev pub InRange : Float → Type 0
 InRange x = T (within_of (dec 0 1) (dec 1000000 1) x)

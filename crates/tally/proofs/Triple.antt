@@ -9,7 +9,7 @@ use Rattle.surface.specs.declared.GroundSample.{GroundSample}
 use Rattle.state.specs.declared.Phase.{Phase}
 use Rattle.look.specs.Rect.{spot_ok}
 use Rattle.look.specs.Tree.{Made, Tree, done, look as look_node, step, Oracle, Spot, run, looks, seen, answer, note, bind}
-use Rattle.look.specs.Resume.{made as made_by}
+use Rattle.look.proofs.Resume.{made as made_by}
 use Rattle.records.specs.Records.{Records, pushed}
 use Rattle.state.specs.State.{state_ok}
 use Rattle.tally.specs.Language.{M, Lent, Log, Outcome, goes, stops, Ran, onward, ◌>>=◌, if◌then◌else◌, point_of, contact_of}

@@ -15,7 +15,7 @@ use Rattle.board.specs.Words.{All, Distinct, Near, after, answers, accepted}
 use Rattle.board.specs.Sorting.{sort_alike, sort_permutes, all_perm, distinct_perm}
 use Rattle.board.specs.Keys.{Finite, key_order}
 use Rattle.board.specs.Bays.{InBay, used_perm}
-use Rattle.board.specs.Listing.{Made, made_new, made_call, made_room, made, listing_sorts, keys_finite}
+use Rattle.board.proofs.Listing.{Made, made_new, made_call, made_room, made, listing_sorts, keys_finite}
 
 -- calls that no test can turn back: bays and spots in range, no shot number twice, and no bay with more than 32
 pub record Fair (calls : List Entry) : Type 0 where

@@ -11,8 +11,8 @@ use Rattle.shelf.specs.declared.Shelf.{Shelf}
 use Rattle.shelf.specs.declared.Returned.{Returned}
 use Rattle.shelf.specs.Map.{name_ok, Map, empty_map, update, Call, Out, out, told, done, with, keep, give, lose, call, map_after}
 use Rattle.shelf.specs.Shelf.{empty_shelf, returned, save_of, return_of, drop_of}
-use Rattle.shelf.specs.Places.{Decided, decide, same_self, used_most}
-use Rattle.shelf.specs.AsMap.{Same, agrees, shelf_call, shelf_after, after_calls}
+use Rattle.shelf.proofs.Places.{Decided, decide, same_self, used_most}
+use Rattle.shelf.proofs.AsMap.{Same, agrees, shelf_call, shelf_after, after_calls}
 
 -- ---- on the map
 module _ (m : Map) (n : List ℕ) where

@@ -10,7 +10,7 @@ use Rattle.std.proofs.Math.ListN.{length}
 use Rattle.state.specs.State.{state_ok}
 use Rattle.state.specs.declared.BallState.{BallState}
 use Rattle.shelf.specs.Map.{name_ok, same, Map, empty_map, update, Call, told, done, with, keep, give, lose, call, map_after}
-use Rattle.shelf.specs.Places.{clash, both, Decided, decide, same_self, same_eq, differ}
+use Rattle.shelf.proofs.Places.{clash, both, Decided, decide, same_self, same_eq, differ}
 
 unfoldable pub holds : List ℕ → List (List ℕ) → Bool
 holds n [] = false

@@ -5,7 +5,8 @@ use Rattle.std.proofs.Math.Path.{refl}
 use Rattle.state.specs.declared.BallState.{BallState}
 use Rattle.surface.specs.declared.GroundSample.{GroundSample}
 use Rattle.state.specs.declared.Phase.{Phase}
-use Rattle.look.specs.Tree.{bind, Oracle, exec, did, Did, ends, look_tree}
+use Rattle.look.specs.Tree.{bind, Oracle, exec, did, Did, look_tree}
+use Rattle.look.proofs.Tree.{ends}
 use Rattle.look.specs.declared.Rect.{Rect}
 use Rattle.look.specs.declared.Look.{Look}
 use Rattle.look.specs.declared.Look.TheVariants.{Off, Saw}

@@ -11,7 +11,7 @@ use Rattle.number.specs.Order.{pp, np, le→, nlt-le, le_through, neg-le, within
 use Rattle.number.specs.Rounding.{summed, round-le}
 use Rattle.number.specs.Against0.{sub_from_0}
 use Rattle.listen.specs.Listen.{near, times_ok, tolerance_ok}
-use Rattle.listen.specs.Times.{times_exactly}
+use Rattle.listen.proofs.Times.{times_exactly}
 
 flipped : (s : Bool) (a : ℕ) → (pp (not s) a ≡ np s a) × (np (not s) a ≡ pp s a)
 flipped true a = (refl, refl)

@@ -8,11 +8,11 @@ use Rattle.std.proofs.Math.Seq.{drop_at}
 use Rattle.std.specs.Float.{nan}
 use Rattle.std.specs.Float.Ieee.{lt}
 use Rattle.listen.specs.Listen.{record_width, contact_times, near, walk, heard_marks, contact_marks, count, refusal_of, Listen, marked, listen_of}
-use Rattle.listen.specs.Accepted.{accepted}
-use Rattle.listen.specs.Walking.{firsts_length, walking, heard_length, contact_length, heard_total, contact_total, pairs_same}
+use Rattle.listen.proofs.Accepted.{accepted}
+use Rattle.listen.proofs.Walking.{firsts_length, walking, heard_length, contact_length, heard_total, contact_total, pairs_same}
 use Rattle.listen.specs.Turns.{places, Increasing, PairAt, HeardOnlyAt, ComputedOnlyAt}
-use Rattle.listen.specs.Earlier.{earlier, time_finite, tolerance_from_0}
-use Rattle.listen.specs.Marking.{heard_each, contact_each, places_count, places_increase, heard_from, computed_from, pair_from}
+use Rattle.listen.proofs.Earlier.{earlier, time_finite, tolerance_from_0}
+use Rattle.listen.proofs.Marking.{heard_each, contact_each, places_count, places_increase, heard_from, computed_from, pair_from}
 
 -- heard times hs and contact times cs, a lent mark list, and what the call gives
 module _ (t : Float) (hs cs : List Float) (lent : List ℕ) (out : Listen) where

@@ -19,7 +19,7 @@ use Rattle.board.specs.Board.{listing, with_listing, empty_entry, empty_board, a
 use Rattle.board.specs.Words.{All, Sorted, RestFirst, Distinct, sort, Near, after, kept, accepted}
 use Rattle.board.specs.Sorting.{insert-length, length-perm, sort_permutes, sort_sorts, all_map, all_perm, distinct_perm}
 use Rattle.board.specs.Keys.{Finite, wider, key_finite, key_order, sorted_rest_first}
-use Rattle.board.specs.Tests.{Tested, no_bay, far, repeated, full, taken, tested, is_near_lem, near_is, held_not}
+use Rattle.board.proofs.Tests.{Tested, no_bay, far, repeated, full, taken, tested, is_near_lem, near_is, held_not}
 use Rattle.board.specs.Bays.{InBay, used_perm, bays_fit, one_more}
 
 -- ---- one call

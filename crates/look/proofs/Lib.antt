@@ -1,0 +1,4 @@
+pub mod Agree
+pub mod Tree
+pub mod Within
+pub mod Resume
