@@ -8,7 +8,7 @@ use Rattle.surface.specs.declared.GroundSample.{GroundSample}
 use Rattle.look.specs.declared.Look.{Look}
 use Rattle.look.specs.declared.Look.TheVariants.{Off, Saw}
 use Rattle.look.specs.Rect.{widen, spot_ok}
-use Rattle.look.specs.Tree.{Tree, Oracle, seen, note, bind, run, looks, Did, did, widen_where, exec}
+use Rattle.look.specs.Tree.{done, look, step, Tree, Oracle, seen, note, bind, run, looks, Did, did, widen_where, exec}
 
 pub run_bind : {A B : Type 0} (o : Oracle) (t : Tree A) (k : A → Tree B) → run o (bind t k) ≡ run o (k (run o t))
 unfolding run bind
