@@ -5,7 +5,7 @@ use Rattle.strike.proofs.dies_out.Tie as tie
 
 returns : tie.Need-returns
 unfolding dies_out
-returns c = rw (← c.before.normalize.ensures) c.hops-die-out.ensures
+returns c = rw (← c.normalize.ensures) c.hops_die_out.ensures
 
 pub dies_out_spec : {M : Type 1} → statement M
 dies_out_spec =

@@ -8,33 +8,33 @@ use Rattle.strike.proofs.drop_to_ground.Statement.{statement}
 use Rattle.strike.proofs.drop_to_ground.Tie as tie
 
 -- the places on the way, each from a later one
-abbrev test : tie.After-t1 → tie.After-test
-test c = c.before.before
+abbrev test : tie.In-Good → tie.After-test
+test c = c.before
 
-abbrev good : tie.After-push-contact → tie.After-t1
-good c = c.before.before.before
+abbrev good : tie.After-push_contact → tie.In-Good
+good c = c.before.before
 
-returns : tie.Need-returns
+returns : tie.Need-returns-in_default
 unfolding drop
 returns c o lp =
-    let s = c.before.before in
-    ended (state_bad _ begun s.before.leave-of.ensures s.test.ensures c.enum_told.given.1)
+    let s = c.before in
+    ended (state_bad _ begun s.leave_of-leave.ensures s.test.ensures c.in_default.is)
 
-returns-2 : tie.Need-returns-2
+returns-2 : tie.Need-returns-in_default-push_contact
 unfolding drop
 returns-2 c o lp =
-    let p : tie.After-push-contact = search in
+    let p : tie.After-push_contact = search in
     let t = good p in
-    ended (contacts_full _ _ _ _ (state_good _ begun (test t).before.leave-of.ensures (test t).test.ensures t.t1.given.1)
-    p.push-contact.ensures c.enum-told2.given.1)
+    ended (contacts_full _ _ _ _ (state_good _ begun (test t).leave_of-leave.ensures (test t).test.ensures t.in-Good.is)
+    p.push_contact.ensures c.in_default-push_contact.is)
 
-returns-3 : tie.Need-returns-3
+returns-3 : tie.Need-returns
 unfolding drop
 returns-3 c o lp =
-    let p : tie.After-push-contact = search in
+    let p : tie.After-push_contact = search in
     let t = good p in
-    ended (contact_pushed _ _ _ _ (state_good _ begun (test t).before.leave-of.ensures (test t).test.ensures t.t1.given.1)
-    p.push-contact.ensures c.before.t2.given.1)
+    ended (contact_pushed _ _ _ _ (state_good _ begun (test t).leave_of-leave.ensures (test t).test.ensures t.in-Good.is)
+    p.push_contact.ensures c.in-Made.is)
 
 pub drop_to_ground_spec : {M : Type 1} → statement M
 drop_to_ground_spec =

@@ -1,4 +1,6 @@
 -- A rebound: flown and kept, or not flown or discarded.
+use Rattle.std.specs.Prelude.{not}
+use Rattle.std.proofs.Common.{ap}
 use Prim.Native.Nat.{◌-◌, ◌*◌, ◌≤◌}
 use native.Mathlib.Nat.{le_refl}
 use native.Mathlib.Omega.{arith}
@@ -25,113 +27,113 @@ use Rattle.strike.proofs.fly.Tie as tie
 
 -- ---- the places on the way, each from a later one
 
-abbrev out : tie.After-push-point → tie.After-out
+abbrev out : tie.After-push_point-pushed → tie.After-out-1
 out c = c.before.before
 
-abbrev start : tie.After-push-point → tie.Start
+abbrev start : tie.After-push_point-pushed → tie.Start
 start c = (out c).before.before.before.before.before
 
-abbrev push : tie.After-pushed2 → tie.After-push-point
-push c = c.before.before.before.before
+abbrev push : tie.In-Made → tie.After-push_point-pushed
+push c = c.before.before.before
 
-abbrev pushed : tie.After-hop → tie.After-pushed2
-pushed c = c.before.before.before.before
+abbrev pushed : tie.After-hop-flight → tie.In-Made
+pushed c = c.before.before.before
 
-abbrev hop : tie.After-flight3 → tie.After-hop
-hop c = c.before.before.before.before
+abbrev hop : tie.In-Flew → tie.After-hop-flight
+hop c = c.before.before.before
 
-abbrev flown : tie.After-way → tie.After-flight3
-flown c = c.before.before.before
+abbrev flown : tie.In-Arrived → tie.In-Flew
+flown c = c.before
 
-abbrev kept-way : tie.After-truncate → tie.After-way
-kept-way c = c.before.before.before.before.before
+abbrev kept-way : tie.After-truncate → tie.In-Arrived
+kept-way c = c.before.before.before.before
 
 -- ---- what is known there
 
 -- the rebound has come to a tally t and points l, and `rest` is left of it, whatever the contacts are
-abbrev Came : tie.After-push-point → (Conditions → BallState → Struck → Tally → M Flown) → Tally → List Float → Type 0
+abbrev Came : tie.After-push_point-pushed → (Conditions → BallState → Struck → Tally → M Flown) → Tally → List Float → Type 0
 Came c rest t l =
     let a = (start c).args in
     (lc : List Float) → let p = place a.t lc a.points.now in
     Reached (course_of a.sheet.now) (fly a.c a.hops a.state a.hit) p (t.steps - a.t.steps) (rest a.c a.state a.hit a.t)
     (place t lc l)
 
-came_push : (c : tie.After-push-point) → Came c (λ c state hit t. to_push c state hit t.points) (start c).args.t (start c).args.points.now
-came_push c lc = came (flying _ _ _ _ (out c).before.if1.false)
+came_push : (c : tie.After-push_point-pushed) → Came c (λ c state hit t. to_push c state hit t.points) (start c).args.t (start c).args.points.now
+came_push c lc = came (flying _ _ _ _ (ap not (out c).if-not-hops.false))
 
-came_hop : (c : tie.After-pushed2) → Came (push c) (λ c state hit t. to_hop c state hit t.points) c.pushed2.given.0.0
-    (push c).push-point.new.1.1.0
-came_hop c lc = came (point_pushed _ _ _ (came_push (push c) lc) (push c).push-point.ensures c.pushed2.given.1)
+came_hop : (c : tie.In-Made) → Came (push c) (λ c state hit t. to_hop c state hit t.points) c.in-Made.after
+    (push c).push_point-pushed.new.points
+came_hop c lc = came (point_pushed _ _ _ (came_push (push c) lc) (push c).push_point-pushed.ensures c.in-Made.is)
 
-abbrev hop-points : tie.After-hop → List Float
-hop-points c = c.hop.new.1.1.0
+abbrev hop-points : tie.After-hop-flight → List Float
+hop-points c = c.hop-flight.new.points
 
-came_way : (c : tie.After-flight3) → let q = pushed (hop c) in
-    Came (push q) (λ e state hit t. to_way e state hit t.points c.flight3.given.0.0) c.flight3.given.0.1.0 (hop-points (hop c))
+came_way : (c : tie.In-Flew) → let q = pushed (hop c) in
+    Came (push q) (λ e state hit t. to_way e state hit t.points c.in-Flew.way) c.in-Flew.after (hop-points (hop c))
 came_way c lc =
     let h = hop c in
-    came (flew _ _ _ (came_hop (pushed h) lc) h.before.flight-of.ensures h.hop.ensures c.flight3.given.1)
+    came (flew _ _ _ (came_hop (pushed h) lc) h.flight_of.ensures h.hop-flight.ensures c.in-Flew.is)
 
 -- the mark's records fit in the list, before the hop and after it
-mark_fits : (c : tie.After-hop) → (start (push (pushed c))).args.t.points * point_width ≤ length (hop-points c)
+mark_fits : (c : tie.After-hop-flight) → (start (push (pushed c))).args.t.points * point_width ≤ length (hop-points c)
 mark_fits c =
     let q = pushed c in
-    let f = point_fits (course_of (start (push q)).args.sheet.now) _ _ (push q).push-point.ensures q.pushed2.given.1 in
-    omega (arith, f.0, f.1, c.hop.auto.1.1.0, (push q).push-point.kept.1.1.0)
+    let f = point_fits (course_of (start (push q)).args.sheet.now) _ _ (push q).push_point-pushed.ensures q.in-Made.is in
+    omega (arith, f.0, f.1, c.hop-flight.auto.points, (push q).push_point-pushed.auto.points)
 
 came_discard : (c : tie.After-truncate) → let f = flown (kept-way c) in
-    Came (push (pushed (hop f))) (λ e state hit t. to_ground e state hit t.points) f.flight3.given.0.1.0 (hop-points (hop f))
+    Came (push (pushed (hop f))) (λ e state hit t. to_ground e state hit t.points) f.in-Flew.after (hop-points (hop f))
 came_discard c lc =
     let w = kept-way c in
-    let e : tie.Else2 = search in
-    hop_discarded _ _ _ _ _ (came_way (flown w) lc) w.way.given.1 e.before.dies-out.ensures e.if2.left
+    let e : tie.Else-dies_out = search in
+    hop_discarded _ _ _ _ _ (came_way (flown w) lc) w.in-Arrived.is e.dies_out.ensures e.if-dies_out.false
 
 -- ---- the answers
 
-returns : tie.Need-returns
+returns : tie.Need-returns-then-not-hops
 unfolding fly_by
-returns c lc = on (ended (if_taken _ _ _ begun refl c.if1.true))
+returns c lc = on (ended (if_taken _ _ _ begun refl (ap not c.if-not-hops.true)))
 
-push-point-requires : tie.Need-push-point-requires
-push-point-requires c κs = let s : tie.Start = search in s.pre.0
+push-point-requires : tie.Need-push_point-pushed-requires
+push-point-requires c κs = let s : tie.Start = search in s.requires.0
 
-returns-2 : tie.Need-returns-2
+returns-2 : tie.Need-returns-in-Ended
 returns-2 c lc =
-    let p : tie.After-push-point = search in
-    on (ended (point_stopped _ _ _ (came_push p lc) p.push-point.ensures c.before.pushed.given.1))
+    let p : tie.After-push_point-pushed = search in
+    on (ended (point_stopped _ _ _ (came_push p lc) p.push_point-pushed.ensures c.in-Ended.is))
 
-hop-requires : tie.Need-hop-requires
+hop-requires : tie.Need-hop-flight-requires
 hop-requires c κs =
-    let q : tie.After-pushed2 = search in
+    let q : tie.In-Made = search in
     let p = (start (push q)).requires in
     (p.0, still_bounded (came_hop q []) p.1)
 
 truncate-requires : tie.Need-truncate-requires
 truncate-requires c κs =
-    let h : tie.After-hop = search in
+    let h : tie.After-hop-flight = search in
     mark_fits h
 
-returns-3 : tie.Need-returns-3
+returns-3 : tie.Need-returns-in-Ended-flight
 returns-3 c lc =
-    let h : tie.After-hop = search in
-    on (ended (hop_ended _ _ _ (came_hop (pushed h) lc) h.before.flight-of.ensures h.hop.ensures c.before.flight.given.1))
+    let h : tie.After-hop-flight = search in
+    on (ended (hop_ended _ _ _ (came_hop (pushed h) lc) h.flight_of.ensures h.hop-flight.ensures c.in-Ended-flight.is))
 
-returns-4 : tie.Need-returns-4
+returns-4 : tie.Need-returns-in-Due
 returns-4 c lc =
-    let h : tie.After-hop = search in
-    on (ended (hop_due _ _ _ (came_hop (pushed h) lc) h.before.flight-of.ensures h.hop.ensures c.before.flight2.given.1))
+    let h : tie.After-hop-flight = search in
+    on (ended (hop_due _ _ _ (came_hop (pushed h) lc) h.flight_of.ensures h.hop-flight.ensures c.in-Due.is))
 
-returns-5 : tie.Need-returns-5
+returns-5 : tie.Need-returns-in-Late
 returns-5 c lc =
-    let f : tie.After-flight3 = search in
-    on (ended (way_late _ _ _ _ _ (came_way f lc) c.enum_told.given.1))
+    let f : tie.In-Flew = search in
+    on (ended (way_late _ _ _ _ _ (came_way f lc) c.in-Late.is))
 
-returns-6 : tie.Need-returns-6
+returns-6 : tie.Need-returns-then-dies_out
 returns-6 c lc =
-    let w : tie.After-way = search in
-    on (ended (hop_kept _ _ _ _ _ (came_way (flown w) lc) w.way.given.1 c.before.dies-out.ensures c.if2.true))
+    let w : tie.In-Arrived = search in
+    on (ended (hop_kept _ _ _ _ _ (came_way (flown w) lc) w.in-Arrived.is c.dies_out.ensures c.if-dies_out.true))
 
-returns-7 : tie.Need-returns-7
+returns-7 : tie.Need-returns-else-dies_out
 returns-7 c lc =
     let t = c.before.before in
     let r = came_discard t lc in

@@ -3,38 +3,38 @@ use Rattle.strike.specs.Strike.{dropped}
 use Rattle.strike.proofs.leave_of.Statement.{statement}
 use Rattle.strike.proofs.leave_of.Tie as tie
 
-returns : tie.Need-returns
+returns : tie.Need-returns-then-length-physics
 unfolding dropped
 returns c =
-    let at-if1 : tie.Then1 = search in
+    let at-if1 : tie.Then-length-physics = search in
     let at-slip : tie.After-slip = search in
     let at-dot : tie.After-dot = search in
     simp (
-      ← at-dot.before.before.normalize.ensures,
-      ← at-dot.before.radius-m.ensures,
+      ← at-dot.normalize-n.ensures,
+      ← at-dot.radius_m-radius.ensures,
       ← at-dot.dot.ensures,
-      ← at-slip.before.before.scale.ensures,
-      ← at-slip.before.sub.ensures,
+      ← at-slip.scale.ensures,
+      ← at-slip.sub-vel.ensures,
       ← at-slip.slip.ensures,
-      ← at-if1.before.before.length.ensures,
-      ← c.before.before.lock-rolling.ensures,
-      at-if1.if1.taken,
+      ← at-if1.length.ensures,
+      ← c.lock_rolling-locked.ensures,
+      at-if1.if-length-physics.true,
     )
 
-returns-2 : tie.Need-returns-2
+returns-2 : tie.Need-returns
 unfolding dropped
 returns-2 c =
     let at-slip : tie.After-slip = search in
     let at-dot : tie.After-dot = search in
     simp (
-      ← at-dot.before.before.normalize.ensures,
-      ← at-dot.before.radius-m.ensures,
+      ← at-dot.normalize-n.ensures,
+      ← at-dot.radius_m-radius.ensures,
       ← at-dot.dot.ensures,
-      ← at-slip.before.before.scale.ensures,
-      ← at-slip.before.sub.ensures,
+      ← at-slip.scale.ensures,
+      ← at-slip.sub-vel.ensures,
       ← at-slip.slip.ensures,
-      ← c.before.before.length.ensures,
-      c.if1.false,
+      ← c.length.ensures,
+      c.if-length-physics.false,
     )
 
 pub leave_of_spec : {M : Type 1} → statement M

@@ -4,13 +4,13 @@ use Rattle.strike.specs.Strike.{rebounds}
 use Rattle.strike.proofs.rebounds.Statement.{statement}
 use Rattle.strike.proofs.rebounds.Tie as tie
 
-returns : tie.Need-returns
+returns : tie.Need-returns-then-v_n
 unfolding rebounds of_bits round
-returns c = let d : tie.After-dot = search in simp (← d.before.normalize.ensures, ← d.dot.ensures, c.before.before.if1.true)
+returns c = let d : tie.After-dot-v_n = search in simp (← d.normalize-n.ensures, ← d.dot-v_n.ensures, c.if-v_n.true)
 
-returns-2 : tie.Need-returns-2
+returns-2 : tie.Need-returns-else-v_n
 unfolding rebounds of_bits round
-returns-2 c = simp (← c.before.before.normalize.ensures, ← c.before.dot.ensures, c.if1.false)
+returns-2 c = simp (← c.normalize-n.ensures, ← c.dot-v_n.ensures, c.if-v_n.false)
 
 pub rebounds_spec : {M : Type 1} → statement M
 rebounds_spec =

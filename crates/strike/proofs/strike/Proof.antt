@@ -6,28 +6,28 @@ use Rattle.strike.proofs.strike.Statement.{statement}
 use Rattle.strike.proofs.strike.Tie as tie
 
 -- the sample that was seen
-abbrev seen : tie.After-impact → tie.After-at
-seen c = c.before.before.before
+abbrev seen : tie.After-impact-out → tie.In-Saw
+seen c = c.before.before
 
-returns : tie.Need-returns
+returns : tie.Need-returns-in_default
 unfolding strike
-returns c lc lp = ended (spot_off _ _ _ begun c.before.before.look.ensures c.enum_told.given.1)
+returns c lc lp = ended (spot_off _ _ _ begun c.look.ensures c.in_default.is)
 
-returns-2 : tie.Need-returns-2
+returns-2 : tie.Need-returns-in_default-test
 unfolding strike
 returns-2 c lc lp =
-    let t = c.before.before in
+    let t = c.before in
     let s = seen t.before in
-    ended (state_bad _ (spot_seen _ _ _ begun s.before.before.look.ensures s.at.given.1) t.before.impact.ensures t.test.ensures
-    c.enum-told2.given.1)
+    ended (state_bad _ (spot_seen _ _ _ begun s.look.ensures s.in-Saw.is) t.impact-out.ensures t.test.ensures
+    c.in_default-test.is)
 
-returns-3 : tie.Need-returns-3
+returns-3 : tie.Need-returns
 unfolding strike
 returns-3 c lc lp =
     let t : tie.After-test = search in
     let s = seen t.before in
-    ended (state_good _ (spot_seen _ _ _ begun s.before.before.look.ensures s.at.given.1) t.before.impact.ensures t.test.ensures
-    c.before.t2.given.1)
+    ended (state_good _ (spot_seen _ _ _ begun s.look.ensures s.in-Saw.is) t.impact-out.ensures t.test.ensures
+    c.in-Good.is)
 
 pub strike_spec : {M : Type 1} → statement M
 strike_spec =
