@@ -5,16 +5,16 @@ use borrow.Author.Rules.{rules}
 use Rattle.probe.proofs.probe_coefficient_at.Statement.{statement}
 use Rattle.probe.proofs.probe_coefficient_at.Tie as tie
 
-returns : tie.Need-returns
-returns c = wrong_input _ _ _ _ _ c.if1.true
+returns : tie.Need-returns-then-input-ne3
+returns c = wrong_input _ _ _ _ _ c.if-input-ne3.true
 
-returns-2 : tie.Need-returns-2
-returns-2 c = wrong_out _ _ _ _ _ (omega arith) c.if2.true
+returns-2 : tie.Need-returns-then-out-ne1
+returns-2 c = wrong_out _ _ _ _ _ (omega arith) c.if-out-ne1.true
 
-returns-3 : tie.Need-returns-3
+returns-3 : tie.Need-returns
 unfolding coefficient_at_row
 returns-3 c = right _ _ _ _ _ (omega arith) (omega arith) _
-    (simp (← c.before.before.before.before.before.before.restitution-of.ensures, ← c.before.before.before.coefficient-at.ensures) (search rules))
+    (simp (← c.restitution_of-restitution.ensures, ← c.coefficient_at.ensures) (search rules))
 
 pub probe_coefficient_at_spec : {M : Type 1} → statement M
 probe_coefficient_at_spec =

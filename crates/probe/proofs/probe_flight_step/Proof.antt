@@ -5,23 +5,23 @@ use borrow.Author.Rules.{rules}
 use Rattle.probe.proofs.probe_flight_step.Statement.{statement}
 use Rattle.probe.proofs.probe_flight_step.Tie as tie
 
-returns : tie.Need-returns
-returns c = wrong_input _ _ _ _ _ c.if1.true
+returns : tie.Need-returns-then-input-ne24
+returns c = wrong_input _ _ _ _ _ c.if-input-ne24.true
 
-returns-2 : tie.Need-returns-2
-returns-2 c = wrong_out _ _ _ _ _ (omega arith) c.if2.true
+returns-2 : tie.Need-returns-then-out-ne6
+returns-2 c = wrong_out _ _ _ _ _ (omega arith) c.if-out-ne6.true
 
-returns-3 : tie.Need-returns-3
+returns-3 : tie.Need-returns
 unfolding flight_step_row
 returns-3 c =
     let at-step : tie.After-step = search in
-    let at-flight-at : tie.After-flight-at = search in
-    let at-vec-at : tie.After-vec-at = search in
+    let at-flight-at : tie.After-flight_at-start = search in
+    let at-vec-at : tie.After-vec_at = search in
     right _ _ _ _ _ (omega arith) (omega arith) _ (simp (
-      ← at-vec-at.before.ball-at.ensures,
-      ← at-vec-at.vec-at.ensures,
-      ← at-flight-at.before.from-spin-vector.ensures,
-      ← at-flight-at.flight-at.ensures,
+      ← at-vec-at.ball_at-ball.ensures,
+      ← at-vec-at.vec_at.ensures,
+      ← at-flight-at.from_spin_vector-aero.ensures,
+      ← at-flight-at.flight_at-start.ensures,
       ← at-step.step.ensures,
     ) (search rules))
 

@@ -5,16 +5,16 @@ use Rattle.probe.specs.Doors.{wrong_input, wrong_out, right, parabola_row}
 use Rattle.probe.proofs.probe_parabola.Statement.{statement}
 use Rattle.probe.proofs.probe_parabola.Tie as tie
 
-returns : tie.Need-returns
-returns c = wrong_input _ _ _ _ _ c.if1.true
+returns : tie.Need-returns-then-input-ne7
+returns c = wrong_input _ _ _ _ _ c.if-input-ne7.true
 
-returns-2 : tie.Need-returns-2
-returns-2 c = wrong_out _ _ _ _ _ (omega arith) c.if2.true
+returns-2 : tie.Need-returns-then-out-ne6
+returns-2 c = wrong_out _ _ _ _ _ (omega arith) c.if-out-ne6.true
 
-returns-3 : tie.Need-returns-3
+returns-3 : tie.Need-returns
 unfolding parabola_row
 returns-3 c = right _ _ _ _ _ (omega arith) (omega arith) _
-    (simp (← c.before.before.before.before.before.before.flight-at.ensures, ← c.before.before.before.parabola.ensures) (search rules))
+    (simp (← c.flight_at-a.ensures, ← c.parabola.ensures) (search rules))
 
 pub probe_parabola_spec : {M : Type 1} → statement M
 probe_parabola_spec =

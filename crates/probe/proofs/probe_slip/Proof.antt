@@ -5,19 +5,19 @@ use Rattle.probe.specs.Doors.{wrong_input, wrong_out, right, slip_row}
 use Rattle.probe.proofs.probe_slip.Statement.{statement}
 use Rattle.probe.proofs.probe_slip.Tie as tie
 
-returns : tie.Need-returns
-returns c = wrong_input _ _ _ _ _ c.if1.true
+returns : tie.Need-returns-then-input-ne10
+returns c = wrong_input _ _ _ _ _ c.if-input-ne10.true
 
-returns-2 : tie.Need-returns-2
-returns-2 c = wrong_out _ _ _ _ _ (omega arith) c.if2.true
+returns-2 : tie.Need-returns-then-out-ne3
+returns-2 c = wrong_out _ _ _ _ _ (omega arith) c.if-out-ne3.true
 
-returns-3 : tie.Need-returns-3
+returns-3 : tie.Need-returns
 unfolding slip_row
 returns-3 c =
     let at-slip : tie.After-slip = search in
-    let at-vec-at3 : tie.After-vec-at3 = search in
+    let at-vec-at3 : tie.After-vec_at-n = search in
     right _ _ _ _ _ (omega arith) (omega arith) _ (simp
-    (← at-vec-at3.before.before.vec-at.ensures, ← at-vec-at3.before.vec-at2.ensures, ← at-vec-at3.vec-at3.ensures, ← at-slip.slip.ensures)
+    (← at-vec-at3.vec_at-vel.ensures, ← at-vec-at3.vec_at-spin.ensures, ← at-vec-at3.vec_at-n.ensures, ← at-slip.slip.ensures)
     (search rules))
 
 pub probe_slip_spec : {M : Type 1} → statement M

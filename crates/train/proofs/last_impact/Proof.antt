@@ -6,33 +6,33 @@ use Rattle.train.proofs.last_impact.Statement.{statement}
 use Rattle.train.proofs.last_impact.Tie as tie
 
 -- the contact is pushed
-abbrev contact : tie.After-t1 → tie.After-push-contact
-contact c = c.before.before.before.before
+abbrev contact : tie.In-Made → tie.After-push_contact
+contact c = c.before.before.before
 
-returns : tie.Need-returns
+returns : tie.Need-returns-in_default
 unfolding last_impact
 returns c =
-    let p : tie.After-push-contact = search in
-    ended (contacts_full _ _ _ _ begun p.push-contact.ensures c.enum_told.given.1)
+    let p : tie.After-push_contact = search in
+    ended (contacts_full _ _ _ _ begun p.push_contact.ensures c.in_default.is)
 
-push-point-requires : tie.Need-push-point-requires
+push-point-requires : tie.Need-push_point-pushed-requires
 push-point-requires c κs = search rules
 
-returns-2 : tie.Need-returns-2
+returns-2 : tie.Need-returns-in-Ended
 unfolding last_impact
 returns-2 c =
-    let p : tie.After-push-point = search in
-    let t : tie.After-t1 = search in
-    ended (point_stopped _ _ _ (contact_pushed _ _ _ _ begun (contact t).push-contact.ensures t.t1.given.1) p.push-point.ensures
-    c.before.pushed.given.1)
+    let p : tie.After-push_point-pushed = search in
+    let t : tie.In-Made = search in
+    ended (point_stopped _ _ _ (contact_pushed _ _ _ _ begun (contact t).push_contact.ensures t.in-Made.is) p.push_point-pushed.ensures
+    c.in-Ended.is)
 
-returns-3 : tie.Need-returns-3
+returns-3 : tie.Need-returns
 unfolding last_impact
 returns-3 c =
-    let p : tie.After-push-point = search in
-    let t : tie.After-t1 = search in
-    ended (point_pushed _ _ _ (contact_pushed _ _ _ _ begun (contact t).push-contact.ensures t.t1.given.1) p.push-point.ensures
-    c.before.pushed2.given.1)
+    let p : tie.After-push_point-pushed = search in
+    let t : tie.In-Made = search in
+    ended (point_pushed _ _ _ (contact_pushed _ _ _ _ begun (contact t).push_contact.ensures t.in-Made.is) p.push_point-pushed.ensures
+    c.in-Made-pushed.is)
 
 pub last_impact_spec : {M : Type 1} → statement M
 last_impact_spec =
