@@ -1,101 +1,96 @@
 // Replays the fixed list of the reference's answers (compare/README.md, "The fixed list") and prints how many entries differ.
 #![tactic(auto)]
 
-ghost use Rattle.std.specs.Prelude.{◌≡◌, ◌+◌, ◌<◌};
+ghost use Rattle.std.specs.Prelude.{◌≡◌, ◌+◌, ◌<◌, ◌≤◌, length, IfOk};
 
-use libc::STDOUT_FILENO;
 use replaying::Replayed;
+use std::fs;
+use std::fs::File;
+use std::io;
+use std::io::Read;
+
+// Reads until the buffer is full or the file ends, and gives how many bytes it put at the start.
+fn read_full(file: &mut File, buf: &mut [u8]) -> io::Result<usize>
+    ensures { IfOk result (λ n. n ≤ length buf.new) }
+{
+    let mut done = 0;
+    while done < buf.len() {
+        let n = file.read(&mut buf[done..])?;
+        if n == 0 {
+            break;
+        }
+        done += n;
+    }
+    Ok(done)
+}
 
 // Fills the entry from the file and replays it.
-fn replay_next(fd: i32, entry: &mut [u8]) -> Replayed {
-    let got = io::read_full(fd, entry);
+fn replay_next(file: &mut File, entry: &mut [u8]) -> io::Result<Replayed> {
+    let got = read_full(file, entry)?;
     if got != entry.len() {
-        return Replayed::Damaged;
+        return Ok(Replayed::Damaged);
     }
-    replaying::replay_entry(entry)
+    Ok(replaying::replay_entry(entry))
 }
 
 // Reads an entry's length, then the entry.
-fn next_entry(fd: i32) -> Replayed {
+fn next_entry(file: &mut File) -> io::Result<Replayed> {
     let mut head = [0u8; 8];
-    if io::read_full(fd, &mut head) != 8 {
-        return Replayed::Damaged;
+    if read_full(file, &mut head)? != 8 {
+        return Ok(Replayed::Damaged);
     }
     let length = octets::word(&head, 0);
     if length > 65536 {
-        return Replayed::Damaged;
+        return Ok(Replayed::Damaged);
     }
     let n = length as usize;
-    let mut space = io::large_buffer();
-    replay_next(fd, &mut space[..n])
+    let mut space = [0u8; 65536];
+    replay_next(file, &mut space[..n])
 }
 
-fn print_differs(number: u64) {
-    io::write_all(STDOUT_FILENO, b"entry ");
-    io::print_decimal(STDOUT_FILENO, number);
-    io::write_all(STDOUT_FILENO, b" differs\n");
-}
-
-fn print_damaged(number: u64) {
-    io::write_all(STDOUT_FILENO, b"the file is damaged at entry ");
-    io::print_decimal(STDOUT_FILENO, number);
-    io::write_all(STDOUT_FILENO, b"\n");
-}
-
-fn print_counts(replayed: u64, differ: u64) {
-    io::print_decimal(STDOUT_FILENO, replayed);
-    io::write_all(STDOUT_FILENO, b" replayed, ");
-    io::print_decimal(STDOUT_FILENO, differ);
-    io::write_all(STDOUT_FILENO, b" differ\n");
+fn print_damaged(rt: &HostRuntime, number: u64) -> io::Result<()> {
+    println!(rt; "the file is damaged at entry {number}")
 }
 
 // One more entry that differs: of the first ten the number is printed.
-fn one_more(number: u64, differ: u64) -> u64
+fn one_more(rt: &HostRuntime, number: u64, differ: u64) -> io::Result<u64>
     requires { differ < 18446744073709551615 }
-    ensures { result ≡ differ + 1 }
+    ensures { IfOk result (λ n. n ≡ differ + 1) }
 {
     if differ < 10 {
-        print_differs(number);
+        println!(rt; "entry {number} differs")?;
     }
-    differ + 1
+    Ok(differ + 1)
 }
 
-fn replay_all(fd: i32, count: u64) {
+fn replay_all(rt: &HostRuntime, file: &mut File, count: u64) -> io::Result<()> {
     let mut number: u64 = 0;
     let mut differ: u64 = 0;
     while number < count {
-        match next_entry(fd) {
+        match next_entry(file)? {
             Replayed::Same => {}
             Replayed::Differs => {
-                differ = one_more(number, differ);
+                differ = one_more(rt, number, differ)?;
             }
             Replayed::Damaged => {
-                print_damaged(number);
-                return;
+                return print_damaged(rt, number);
             }
         }
         number += 1;
     }
     let mut more = [0u8; 1];
-    if io::read_full(fd, &mut more) != 0 {
-        print_damaged(number);
-        return;
+    if read_full(file, &mut more)? != 0 {
+        return print_damaged(rt, number);
     }
-    print_counts(number, differ);
+    println!(rt; "{number} replayed, {differ} differ")
 }
 
-fn main() {
-    let path = b"replay.bin";
-    let fd = os::open_read(path);
-    if fd < 0 {
-        os::fail(path);
-        return;
-    }
+fn main(rt: HostRuntime) -> io::Result<()> {
+    let mut file = fs::open(&rt, "replay.bin")?;
     let mut head = [0u8; 8];
-    if io::read_full(fd, &mut head) == 8 {
-        replay_all(fd, octets::word(&head, 0));
+    if read_full(&mut file, &mut head)? == 8 {
+        replay_all(&rt, &mut file, octets::word(&head, 0))
     } else {
-        print_damaged(0);
+        print_damaged(&rt, 0)
     }
-    libc::close(fd);
 }
