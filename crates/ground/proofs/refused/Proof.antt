@@ -5,7 +5,7 @@ use Rattle.ground.proofs.refused.Tie as tie
 
 returns : tie.Need-returns
 unfolding of_bits round
-returns c = rw c.no-rect.ensures
+returns c = rw c.no_rect.ensures
 
 pub refused_spec : {M : Type 1} → statement M
 refused_spec =

@@ -7,27 +7,27 @@ use Rattle.ground.specs.Passed.{settle_sheet}
 use Rattle.ground.proofs.settle.Statement.{statement}
 use Rattle.ground.proofs.settle.Tie as tie
 
-returns : tie.Need-returns
+returns : tie.Need-returns-then-answer-ne0
 unfolding settle_of
-returns c = rw (c.refused.ensures, ← c.before.before.refusal.ensures, ne_eqb _ _ c.before.if1.true)
+returns c = rw (c.refused.ensures, ← c.refusal-answer.ensures, ne_eqb _ _ c.if-answer-ne0.true)
 
-make-index-requires : tie.Need-make-index-requires
-make-index-requires c κs = (settle_sheet _ _ _ _ (sym c.before.before.refusal.ensures ∙ c.before.if1.false), search rules)
+make-index-requires : tie.Need-make_index-requires
+make-index-requires c κs = (settle_sheet _ _ _ _ (sym c.refusal-answer.ensures ∙ c.if-answer-ne0.false), search rules)
 
-settle-with-requires : tie.Need-settle-with-requires
+settle-with-requires : tie.Need-settle_with-requires
 settle-with-requires c κs =
-    let m : tie.After-make-index = search in
+    let m : tie.After-make_index = search in
     let e = m.before.before in
-    (sym e.before.refusal.ensures ∙ e.if1.left, m.make-index.ensures.0)
+    (sym e.refusal-answer.ensures ∙ e.if-answer-ne0.false, m.make_index.ensures.0)
 
-same_length : tie.Need-same-length
-same_length c = let s : tie.After-settle-with = search in s.settle-with.kept.1.1.1.0
+same_length : tie.Need-shape_of-contacts
+same_length c = let s : tie.After-settle_with = search in s.settle_with.auto.contacts
 
-same-length-2 : tie.Need-same-length-2
-same-length-2 c = let s : tie.After-settle-with = search in s.settle-with.kept.1.1.1.1.0
+same-length-2 : tie.Need-shape_of-points
+same-length-2 c = let s : tie.After-settle_with = search in s.settle_with.auto.points
 
-returns-2 : tie.Need-returns-2
-returns-2 c = let s : tie.After-settle-with = search in s.settle-with.ensures
+returns-2 : tie.Need-returns
+returns-2 c = let s : tie.After-settle_with = search in s.settle_with.ensures
 
 pub settle_spec : {M : Type 1} → statement M
 settle_spec =

@@ -4,21 +4,21 @@ use Rattle.ground.specs.Settle.{termination_number}
 use Rattle.ground.proofs.termination_number.Statement.{statement}
 use Rattle.ground.proofs.termination_number.Tie as tie
 
-returns : tie.Need-returns
+returns : tie.Need-returns-in-Nothing
 unfolding termination_number
-returns c = rw c.enum_told.given.1
+returns c = rw c.in-Nothing.is
 
-returns-2 : tie.Need-returns-2
+returns-2 : tie.Need-returns-in-Rest
 unfolding termination_number
-returns-2 c = rw c.enum-told2.given.1
+returns-2 c = rw c.in-Rest.is
 
-returns-3 : tie.Need-returns-3
+returns-3 : tie.Need-returns-in-MaxTime
 unfolding termination_number
-returns-3 c = rw c.enum-told3.given.1
+returns-3 c = rw c.in-MaxTime.is
 
-returns-4 : tie.Need-returns-4
+returns-4 : tie.Need-returns-in-MaxImpacts
 unfolding termination_number
-returns-4 c = rw c.enum-told4.given.1
+returns-4 c = rw c.in-MaxImpacts.is
 
 pub termination_number_spec : {M : Type 1} → statement M
 termination_number_spec =
