@@ -6,7 +6,7 @@ use Rattle.input.proofs.real.Tie as tie
 
 returns : tie.Need-returns
 unfolding real_at
-returns c = c.double_at_lem.ensures
+returns c = c.double_at.ensures
 
 pub real_spec : {M : Type 1} → statement M
 real_spec = tie.close (tie.spec (λ c. search rules) (λ c κs. search rules) returns)

@@ -35,25 +35,25 @@ module _ (f : Bool) (s : List ℕ) (lc lp : List Float) {w : Result} {t : List �
   settles : w ≡ settle_of t shot lc lp → t ≡ drop 240 s → shot ≡ shot_by f s → 240 ≤ length s → length s ≤ 34048 → w ≡ settle_input_by f s lc lp
   settles x y z h k = rw (x, y, z, fits f s lc lp h k)
 
-returns : tie.Need-returns
+returns : tie.Need-returns-then-input-lt240
 returns c =
-    let a = c.before.before.before.before.before.args in
-    rw (short a.fading a.input.now a.contacts.now a.points.now c.before.if1.true, ← c.refused.ensures)
+    let a = c.args in
+    rw (short a.fading a.input.now a.contacts.now a.points.now c.if-input-lt240.true, ← c.refused.ensures)
 
-returns-2 : tie.Need-returns-2
+returns-2 : tie.Need-returns-then-input-gt34048
 returns-2 c =
     let at-if1 = c.before.before in
-    let a = at-if1.before.before.before.before.args in
-    rw (long a.fading a.input.now a.contacts.now a.points.now at-if1.if1.false c.before.if2.true, ← c.refused2.ensures)
+    let a = at-if1.args in
+    rw (long a.fading a.input.now a.contacts.now a.points.now at-if1.if-input-lt240.false c.if-input-gt34048.true, ← c.refused-then-input-gt34048.ensures)
 
-returns-3 : tie.Need-returns-3
+returns-3 : tie.Need-returns
 returns-3 c =
     let at-settle = c.before.before.before.before in
     let at-shot-at = at-settle.before.before.before.before in
     let at-if2 = at-shot-at.before in
-    let a = at-if2.before.before.before.before.before.args in
-    settles a.fading a.input.now a.contacts.now a.points.now at-settle.settle.ensures (part a.input.now) at-shot-at.shot_at_lem.ensures
-    at-if2.before.if1.false at-if2.if2.false
+    let a = at-if2.args in
+    settles a.fading a.input.now a.contacts.now a.points.now at-settle.settle.ensures (part a.input.now) at-shot-at.shot_at-shot.ensures
+    at-if2.if-input-lt240.false at-if2.if-input-gt34048.false
 
 pub settle_input_spec : {M : Type 1} → statement M
 settle_input_spec =
