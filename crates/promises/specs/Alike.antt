@@ -210,7 +210,7 @@ module _ (c : Conditions) where
   unfolding fly_by
   fly_spun hops state hit d =
       either (Gives SpunFlown) (not hops) (gives_pure SpunFlown Ground tt)
-      (gives_bind SpunFlown mark _ (λ m. gives_bind SpunFlown (push_point _ _) _ (λ _. gives_then SpunWay SpunFlown (hop_held c hit.out) _ (λ w. elim w [
+      (gives_bind SpunFlown mark _ (λ m. gives_bind SpunFlown (push_point _ _) _ (λ _. gives_then SpunWay SpunFlown (hop_held c hit.out) _ (elim [
         | Late b ↦ λ j. gives_pure SpunFlown (Hop (Late b)) j
         | Arrived b ↦ λ j. either (Gives SpunFlown) (dies_out c state hit b) (gives_pure SpunFlown (Hop (Arrived b)) j)
             (gives_bind SpunFlown (truncate m) _ (λ _. gives_pure SpunFlown Ground tt))

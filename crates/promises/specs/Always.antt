@@ -12,7 +12,9 @@ use Rattle.tally.proofs.Triple.{t_after, t_bind, t_if, t_same, t_look, t_test, t
 use Rattle.tally.specs.declared.Conditions.{Conditions}
 use Rattle.hop.specs.Hop.{Air, hop_step, hop_from, hop}
 use Rattle.hop.specs.declared.Flight.{Flight}
+use Rattle.hop.specs.declared.Way.{Way}
 use Rattle.hop.specs.declared.Way.TheVariants.{Arrived, Late}
+use Rattle.roll.specs.declared.Ending.{Ending}
 use Rattle.roll.specs.Roll.{ground_step}
 use Rattle.roll.specs.declared.Roll.{Roll}
 use Rattle.ground_phase.specs.GroundPhase.{time_up, ground_from, ground}
@@ -86,12 +88,17 @@ module _ {o : Oracle} {I : Past → Type 0} (k : Words o I) where
     unfolding last_impact
     w_last_impact state hit = t_bind (w_contact _ _ _) (λ _. t_bind (w_point _ _) (λ _. t_same))
 
+    w_way : (n : ℕ) (way : Way) → ((s : BallState) → Holds o I (train_from c n s))
+        → Holds o I {A = Ending} (elim way as (λ x. M Ending) [ Arrived b ↦ train_from c n b | Late b ↦ time_up b InHop ])
+    w_way n (Arrived b) f = f b
+    w_way n (Late b) f = w_time_up b InHop
+
     w_train_from : (n : ℕ) (state : BallState) → Holds o I (train_from c n state)
     unfolding train_from_by
     w_train_from zero state = t_bind (w_strike state) (λ hit. t_if (not (rebounds c hit)) (λ _. w_to_ground state hit) (λ _. w_last_impact state hit))
     w_train_from (suc n) state = t_bind (w_strike state) (λ hit. t_bind (w_fly _ state hit) (elim [
       | Ground ↦ w_to_ground state hit
-      | Hop way ↦ t_bind (w_contact _ _ _) (λ _. elim way [ Arrived b ↦ w_train_from n b | Late b ↦ w_time_up b InHop ])
+      | Hop way ↦ t_bind (w_contact _ _ _) (λ _. w_way n way (w_train_from n))
     ]))
 
     pub train_holds : (landing : BallState) → Holds o I (train c landing)

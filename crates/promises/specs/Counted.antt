@@ -192,7 +192,7 @@ module _ (o : Oracle) where
   makes_hop_arrival arc t end spin =
       makes_then (clearance_at arc (dec 0 1)) _ 0 (makes_clearance_at arc _)
       (λ f0. makes_then (crossing_from (clearance_at arc) arc.h end 8 1 _) _ 0 (makes_crossing (clearance_at arc) (makes_clearance_at arc) arc.h end 8 1 _)
-      (λ c. elim c [
+      (elim [
         | none ↦ makes_pure none
         | some b ↦ makes_then (crossing_time arc b) _ 0 (makes_crossing_time arc b) (λ tau. makes_then (look _ _) _ 0 (makes_look _ _) (λ s. makes_pure _))
       ]))

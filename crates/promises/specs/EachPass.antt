@@ -67,7 +67,7 @@ module _ {A B : Type 0} (I : A → Type 0) (R : B → Type 0) (late : A → Bool
   gives_loop at_end e zero a i = either (Gives R) (late a) (e a i) (λ o. t_stop (λ w _. tt))
   gives_loop at_end e (suc n) a i =
       by_test (Gives R) (late a) (e a i) (λ d. gives_then (On I R) R (pass a) _
-      (λ x. elim x [ again b ↦ λ w. gives_loop at_end e n b w | over r ↦ λ w. gives_pure R r w ]) (p a i d))
+      (elim [ again b ↦ λ w. gives_loop at_end e n b w | over r ↦ λ w. gives_pure R r w ]) (p a i d))
 
   module _ (o : Oracle) (P : Made → Type 0) (made : A → Made) (q : (a : A) → I a → late a ≡ false → P (made a)) where
     each_loop : (n : ℕ) (a : A) → I a → (l : Log) → Each P (loop_passes o late pass made n a l)
@@ -77,7 +77,7 @@ module _ {A B : Type 0} (I : A → Type 0) (R : B → Type 0) (late : A → Bool
         by_test (Each P) (late a) tt (λ d. (
           q a i d,
           each_after o P (On I R) (pass a) _ (p a i d)
-              (λ x. elim x [ again b ↦ λ w. each_loop n b w | over r ↦ λ w m. tt ]) l,
+              (elim [ again b ↦ λ w. each_loop n b w | over r ↦ λ w m. tt ]) l,
         ))
 
 any : {A : Type 0} (m : M A) → Gives (λ _. Unit) m
@@ -153,7 +153,7 @@ module _ (c : Conditions) (paced : Paced c) where
   unfolding fly_by
   fly_gives hops state hit i =
       either (Gives TimedFlown) (not hops) (gives_pure TimedFlown Ground tt)
-      (gives_bind TimedFlown mark _ (λ m. gives_bind TimedFlown (push_point _ _) _ (λ _. gives_then TimedWay TimedFlown (hop c hit.out) _ (λ w. elim w [
+      (gives_bind TimedFlown mark _ (λ m. gives_bind TimedFlown (push_point _ _) _ (λ _. gives_then TimedWay TimedFlown (hop c hit.out) _ (elim [
         | Late b ↦ λ j. gives_pure TimedFlown (Hop (Late b)) j
         | Arrived b ↦ λ j. either (Gives TimedFlown) (dies_out c state hit b) (gives_pure TimedFlown (Hop (Arrived b)) j)
             (gives_bind TimedFlown (truncate m) _ (λ _. gives_pure TimedFlown Ground tt))
@@ -204,12 +204,10 @@ module _ (c : Conditions) (paced : Paced c) where
     each_train (suc n) state i =
         each_after o (Bracketed c) TimedHit (strike c state) _ (strike_gives state i) (λ hit j l.
         each_append o (Bracketed c) (fly_passes o c (rebounds c hit) hit l) _ (each_fly (rebounds c hit) hit j l)
-        (each_after o (Bracketed c) TimedFlown (fly c (rebounds c hit) state hit) _ (fly_gives (rebounds c hit) state hit j) (λ w. elim w [
+        (each_after o (Bracketed c) TimedFlown (fly c (rebounds c hit) state hit) _ (fly_gives (rebounds c hit) state hit j) (elim [
           | Ground ↦ λ _. each_to_ground state hit j
-          | Hop way ↦ elim way [
-            | Arrived b ↦ λ k. each_after o (Bracketed c) (λ _. Unit) (push_contact state hit.«at» hit.out) _
+          | Hop (Arrived b) ↦ λ k. each_after o (Bracketed c) (λ _. Unit) (push_contact state hit.«at» hit.out) _
                 (any (push_contact state hit.«at» hit.out)) (λ _ _. each_train n b k)
-            | Late b ↦ λ k. each_after o (Bracketed c) (λ _. Unit) (push_contact state hit.«at» hit.out) _
+          | Hop (Late b) ↦ λ k. each_after o (Bracketed c) (λ _. Unit) (push_contact state hit.«at» hit.out) _
                 (any (push_contact state hit.«at» hit.out)) (λ _ _ m. tt)
-          ]
         ]) l))

@@ -87,7 +87,7 @@ recs-flat : (w : ℕ) (rs : Records) (l : List Float) → Each (λ r. length r �
 unfolding recs flat
 recs-flat w [] l h = refl
 recs-flat w (r ∷ rs) l h =
-    rw (append_assoc r (flat rs) l, ← h.0, (front r (flat rs ++ l)).0, (front r (flat rs ++ l)).1, h.0) (ap (λ (k : Records). r ∷ k) (recs-flat w rs l h.1))
+    rw (append_assoc r (flat rs) l, ← h.0, (front r (flat rs ++ l)).0, (front r (flat rs ++ l)).1) (ap (λ (k : Records). r ∷ k) (recs-flat w rs l h.1))
 
 pub recs_shown : (w n : ℕ) (rs : Records) → Each (λ r. length r ≡ w) rs → recs w (length rs) (shown n rs) ≡ rs
 unfolding shown

@@ -7,37 +7,37 @@ use Rattle.aim.proofs.Laws.{turned_back, found, nothing_found}
 use Rattle.aim.proofs.aim.Statement.{statement}
 use Rattle.aim.proofs.aim.Tie as tie
 
-returns : tie.Need-returns
-returns c = turned_back _ _ _ _ _ _ _ c.before.before.aim-refusal.ensures c.before.if1.true c.no-aim.ensures
+returns : tie.Need-returns-then-answer-ne0
+returns c = turned_back _ _ _ _ _ _ _ c.aim_refusal-answer.ensures c.if-answer-ne0.true c.no_aim.ensures
 
-make-index-requires : tie.Need-make-index-requires
+make-index-requires : tie.Need-make_index-requires
 make-index-requires c κs =
-    let k = aim_accepted _ _ _ _ _ _ _ (sym c.before.before.aim-refusal.ensures ∙ c.before.if1.false) in
+    let k = aim_accepted _ _ _ _ _ _ _ (sym c.aim_refusal-answer.ensures ∙ c.if-answer-ne0.false) in
     (settle_sheet _ _ _ _ k.settles, search rules)
 
-try-grid-requires : tie.Need-try-grid-requires
+try-grid-requires : tie.Need-try_grid-found-requires
 try-grid-requires c κs =
-    let m : tie.After-make-index = search in
+    let m : tie.After-make_index = search in
     let e = m.before.before in
-    let k = aim_accepted _ _ _ _ _ _ _ (sym e.before.aim-refusal.ensures ∙ e.if1.left) in
-    (k.settles, m.make-index.ensures.0, k.rows_fit, k.columns_fit)
+    let k = aim_accepted _ _ _ _ _ _ _ (sym e.aim_refusal-answer.ensures ∙ e.if-answer-ne0.false) in
+    (k.settles, m.make_index.ensures.0, k.rows_fit, k.columns_fit)
 
-returns-2 : tie.Need-returns-2
+returns-2 : tie.Need-returns-in-Hit
 returns-2 c =
-    let g : tie.After-try-grid = search in
-    let e : tie.Else1 = search in
-    found _ _ _ _ _ _ _ (sym e.before.aim-refusal.ensures ∙ e.if1.left) _ _ g.try-grid.ensures c.before.found.given.1
+    let g : tie.After-try_grid-found = search in
+    let e : tie.Else-answer-ne0 = search in
+    found _ _ _ _ _ _ _ (sym e.aim_refusal-answer.ensures ∙ e.if-answer-ne0.false) _ _ g.try_grid-found.ensures c.in-Hit.is
 
-returns-3 : tie.Need-returns-3
+returns-3 : tie.Need-returns-in-Missed
 returns-3 c =
-    let z2 : tie.After-zero-from2 = search in
-    let z : tie.After-zero-from = search in
+    let z2 : tie.After-zero_from-in-Missed = search in
+    let z : tie.After-zero_from = search in
     let n = z.before.before in
-    let g : tie.After-try-grid = search in
-    let e : tie.Else1 = search in
-    nothing_found _ _ _ _ _ _ _ (sym e.before.aim-refusal.ensures ∙ e.if1.left) _ _ g.try-grid.ensures n.enum_told.given.1
-    c.no-aim2.ensures z.zero-from.ensures z2.zero-from2.ensures g.try-grid.kept.1.1.1.1.1.1.0
-    g.try-grid.kept.1.1.1.1.1.1.1.0
+    let g : tie.After-try_grid-found = search in
+    let e : tie.Else-answer-ne0 = search in
+    nothing_found _ _ _ _ _ _ _ (sym e.aim_refusal-answer.ensures ∙ e.if-answer-ne0.false) _ _ g.try_grid-found.ensures n.in-Missed.is
+    c.no_aim-in-Missed.ensures z.zero_from.ensures z2.zero_from-in-Missed.ensures g.try_grid-found.auto.contacts
+    g.try_grid-found.auto.points
 
 pub aim_spec : {M : Type 1} → statement M
 aim_spec =

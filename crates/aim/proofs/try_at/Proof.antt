@@ -7,32 +7,32 @@ use Rattle.aim.proofs.try_at.Tie as tie
 
 -- ---- the places on the way, each from a later one
 
-abbrev start : tie.After-shot-from → tie.Start
+abbrev start : tie.After-shot_from → tie.Start
 start c = c.before.before.before.before.before
 
-abbrev from : tie.After-settle-with → tie.After-shot-from
+abbrev from : tie.After-settle_with-settled → tie.After-shot_from
 from c = c.before.before.before
 
 -- ---- the answers
 
-settle-with-requires : tie.Need-settle-with-requires
+settle-with-requires : tie.Need-settle_with-settled-requires
 settle-with-requires c κs =
     let f = c.before.before in
-    rw f.shot-from.ensures (start f).requires
+    rw f.shot_from.ensures (start f).requires
 
-returns : tie.Need-returns
+returns : tie.Need-returns-then-fits
 returns c =
-    let s : tie.After-settle-with = search in
+    let s : tie.After-settle_with-settled = search in
     let f = from s in
-    hits _ (start f).args.shot _ _ _ _ (start f).pre.0 f.shot-from.ensures s.settle-with.ensures
-    (sym c.before.fits2.ensures ∙ c.if1.true)
+    hits _ (start f).args.shot _ _ _ _ (start f).requires.0 f.shot_from.ensures s.settle_with-settled.ensures
+    (sym c.fits.ensures ∙ c.if-fits.true)
 
-returns-2 : tie.Need-returns-2
+returns-2 : tie.Need-returns
 returns-2 c =
-    let s : tie.After-settle-with = search in
+    let s : tie.After-settle_with-settled = search in
     let f = from s in
-    misses _ (start f).args.shot _ _ _ _ (start f).pre.0 f.shot-from.ensures s.settle-with.ensures
-    (sym c.before.fits2.ensures ∙ c.if1.false)
+    misses _ (start f).args.shot _ _ _ _ (start f).requires.0 f.shot_from.ensures s.settle_with-settled.ensures
+    (sym c.fits.ensures ∙ c.if-fits.false)
 
 pub try_at_spec : {M : Type 1} → statement M
 try_at_spec =

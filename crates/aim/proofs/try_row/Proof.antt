@@ -8,63 +8,63 @@ use Rattle.aim.proofs.Laws.{row_all, row_next, row_end, Along, starts, can_try, 
 use Rattle.aim.proofs.try_row.Statement.{statement}
 use Rattle.aim.proofs.try_row.Tie as tie
 
-abbrev invariant-loop : tie.invariant-loop
+abbrev invariant-loop : tie.invariant-loop-j
 invariant-loop sheet index shot target i downward contacts₀ points₀ j₀ contacts points j =
     Along sheet shot target (row shot.landing i downward 1) contacts₀ points₀ (row shot.landing i (downward + 1 - j) j) contacts points
 
-abbrev decreases-loop : tie.decreases-loop
+abbrev decreases-loop : tie.decreases-loop-j
 decreases-loop sheet index shot target i downward contacts₀ points₀ j₀ contacts points j = downward + 1 - j
 
-loop-holds : tie.Need-loop-init invariant-loop decreases-loop
+loop-holds : tie.Need-loop-j-init invariant-loop decreases-loop
 loop-holds c = starts _ _ (row_all _ _ _)
 
 -- ---- the places on the way, each from a later one
 
-abbrev start : tie.In-loop invariant-loop decreases-loop → tie.Start invariant-loop decreases-loop
+abbrev start : tie.In-loop-j invariant-loop decreases-loop → tie.Start invariant-loop decreases-loop
 start c = c.before.before.before.before.before.before
 
-abbrev landing : tie.After-try-at invariant-loop decreases-loop → tie.After-with-speeds invariant-loop decreases-loop
+abbrev landing : tie.After-try_at-tried invariant-loop decreases-loop → tie.After-with_speeds-landing invariant-loop decreases-loop
 landing c = c.before.before.before
 
-abbrev turn : tie.After-try-at invariant-loop decreases-loop → tie.In-loop invariant-loop decreases-loop
+abbrev turn : tie.After-try_at-tried invariant-loop decreases-loop → tie.In-loop-j invariant-loop decreases-loop
 turn c = (landing c).before
 
 -- ---- the answers
 
-try-at-requires : tie.Need-try-at-requires invariant-loop decreases-loop
+try-at-requires : tie.Need-try_at-tried-requires invariant-loop decreases-loop
 try-at-requires c κs =
     let w = c.before.before in
     let t = w.before in
     let p = (start t).requires in
-    let j : t.before.loop.j ≤ 32 = omega (arith, t.loop-test.true, p.3) in
-    (can_try t.before.loop.invariant _ _ p.0 p.2 j w.with-speeds.ensures, p.1)
+    let j : t.loop-j.j ≤ 32 = omega (arith, t.loop-j-test.true, p.3) in
+    (can_try t.loop-j.invariant _ _ p.0 p.2 j w.with_speeds-landing.ensures, p.1)
 
-same_length : tie.Need-same-length invariant-loop decreases-loop
-same_length c = let t : tie.After-try-at invariant-loop decreases-loop = search in t.try-at.kept.1.1.1.1.1.0 ∙ (turn t).before.loop.inv.cl
+same_length : tie.Need-shape_of-contacts-in-Hit invariant-loop decreases-loop
+same_length c = let t : tie.After-try_at-tried invariant-loop decreases-loop = search in t.try_at-tried.auto.contacts ∙ (turn t).loop-j.invariant.cl
 
-same-length-2 : tie.Need-same-length-2 invariant-loop decreases-loop
-same-length-2 c = let t : tie.After-try-at invariant-loop decreases-loop = search in t.try-at.kept.1.1.1.1.1.1.0 ∙ (turn t).before.loop.inv.pl
+same-length-2 : tie.Need-shape_of-points-in-Hit invariant-loop decreases-loop
+same-length-2 c = let t : tie.After-try_at-tried invariant-loop decreases-loop = search in t.try_at-tried.auto.points ∙ (turn t).loop-j.invariant.pl
 
-returns : tie.Need-returns invariant-loop decreases-loop
+returns : tie.Need-returns-in-Hit invariant-loop decreases-loop
 returns c =
-    let t : tie.After-try-at invariant-loop decreases-loop = search in
-    ends_hit (turn t).before.loop.inv _ _ _ _ (row_next _ _ _ _ (turn t).loop-test.taken (landing t).with-speeds.ensures) t.try-at.ensures
-    c.before.tried.given.1
+    let t : tie.After-try_at-tried invariant-loop decreases-loop = search in
+    ends_hit (turn t).loop-j.invariant _ _ _ _ (row_next _ _ _ _ (turn t).loop-j-test.true (landing t).with_speeds-landing.ensures) t.try_at-tried.ensures
+    c.in-Hit.is
 
-add-j : tie.Need-overflow-add-j invariant-loop decreases-loop
-add-j c = let t : tie.In-loop invariant-loop decreases-loop = search in omega (arith, t.loop-test.taken, (start t).pre.3)
+add-j : tie.Need-overflow_add-j invariant-loop decreases-loop
+add-j c = let t : tie.In-loop-j invariant-loop decreases-loop = search in omega (arith, t.loop-j-test.true, (start t).requires.3)
 
-loop-less : tie.Need-loop-smaller invariant-loop decreases-loop
-loop-less c = let t : tie.In-loop invariant-loop decreases-loop = search in omega (arith, t.loop-test.taken)
+loop-less : tie.Need-loop-j-smaller invariant-loop decreases-loop
+loop-less c = let t : tie.In-loop-j invariant-loop decreases-loop = search in omega (arith, t.loop-j-test.true)
 
-loop_again : tie.Need-loop-preserved invariant-loop decreases-loop
+loop_again : tie.Need-loop-j-preserved invariant-loop decreases-loop
 loop_again c =
-    let t : tie.After-try-at invariant-loop decreases-loop = search in
-    goes_on (turn t).before.loop.inv _ _ _ _ (row_next _ _ _ _ (turn t).loop-test.taken (landing t).with-speeds.ensures) t.try-at.ensures
-    c.enum_told.given.1 t.try-at.kept.1.1.1.1.1.0 t.try-at.kept.1.1.1.1.1.1.0
+    let t : tie.After-try_at-tried invariant-loop decreases-loop = search in
+    goes_on (turn t).loop-j.invariant _ _ _ _ (row_next _ _ _ _ (turn t).loop-j-test.true (landing t).with_speeds-landing.ensures) t.try_at-tried.ensures
+    c.in-Missed.is t.try_at-tried.auto.contacts t.try_at-tried.auto.points
 
-returns-2 : tie.Need-returns-2 invariant-loop decreases-loop
-returns-2 c = ends_missed c.before.loop.invariant (row_end _ _ _ _ c.loop-test.false)
+returns-2 : tie.Need-returns invariant-loop decreases-loop
+returns-2 c = ends_missed c.loop-j.invariant (row_end _ _ _ _ c.loop-j-test.false)
 
 pub try_row_spec : {M : Type 1} → statement M
 try_row_spec =
@@ -83,6 +83,6 @@ try_row_spec =
     add-j
     loop-less
     loop_again
-    (λ c. c.before.loop.invariant.cl)
-    (λ c. c.before.loop.invariant.pl)
+    (λ c. c.before.loop-j.invariant.cl)
+    (λ c. c.before.loop-j.invariant.pl)
     returns-2)
