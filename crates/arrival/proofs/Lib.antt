@@ -1,2 +1,4 @@
 pub mod Turns
 pub mod Ways
+pub mod FirstCrossing
+pub mod ArrivalTime

@@ -24,7 +24,7 @@ use Rattle.tally.specs.Times.{is_late}
 use Rattle.tally.proofs.Triple.{Past, past, fresh, After, Reached, reach, reaches, reach_is, t_any}
 use Rattle.tally.specs.declared.Conditions.{Conditions}
 use Rattle.arrival.specs.Arrival.{clearance, clearance_at, first_crossing, crossing_time, placed, hop_arrival}
-use Rattle.arrival.specs.FirstCrossing.{IfSome}
+use Rattle.arrival.proofs.FirstCrossing.{IfSome}
 use Rattle.arrival.specs.RootSearch.{Gives, gives_pure, gives_then, gives_bind}
 use Rattle.arrival.specs.declared.Arc.{Arc}
 use Rattle.impact.specs.Impact.{grazing, effective_normal, pivoted, struck as hit_by, impact_of}

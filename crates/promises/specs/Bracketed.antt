@@ -18,8 +18,8 @@ use Rattle.tally.specs.Language.{Log, onward, in_m, evaluate, Pass, again, over}
 use Rattle.tally.specs.declared.Conditions.{Conditions}
 use Rattle.arrival.specs.Arrival.{clearance_at, hop_arrival}
 use Rattle.arrival.specs.RootSearch.{Gives, EvaluatesAtMost}
-use Rattle.arrival.specs.FirstCrossing.{IfSome}
-use Rattle.arrival.specs.ArrivalTime.{ArrivesIn}
+use Rattle.arrival.proofs.FirstCrossing.{IfSome}
+use Rattle.arrival.proofs.ArrivalTime.{ArrivesIn}
 use Rattle.hop.specs.Hop.{Air, step_arc, hop_step}
 use Rattle.hop.specs.declared.Flight.{Flight}
 use Rattle.hop.specs.declared.Way.{Way}

@@ -26,7 +26,7 @@ use Rattle.search.specs.declared.RootStep.TheVariants.{Next, Found}
 use Rattle.tally.specs.Language.{M, in_m, look, push_contact, evaluate}
 use Rattle.tally.specs.declared.Conditions.{Conditions}
 use Rattle.arrival.specs.Arrival.{arc_of, clearance, clearance_at, sub_step, crossing_from, first_crossing, end_value, crossing_time, placed, hop_arrival}
-use Rattle.arrival.specs.FirstCrossing.{IfSome}
+use Rattle.arrival.proofs.FirstCrossing.{IfSome}
 use Rattle.arrival.specs.declared.Arc.{Arc}
 use Rattle.hop.specs.Hop.{spin_after, aero_for, air_of, step_arc, step_end, hop_next, hop_step, hop_from, hop}
 use Rattle.hop.specs.declared.Flight.{Flight}

@@ -30,7 +30,7 @@ use Rattle.tally.specs.declared.Conditions.{Conditions}
 use Rattle.tally.proofs.Triple.{Past, OnWith, Triple, t_before, t_after, t_bind, t_then, t_know, t_both, t_if, t_pure, t_look, t_test, t_point, t_step}
 use Rattle.tally.proofs.Triple.{t_made, t_left, t_when, t_loop_due}
 use Rattle.arrival.specs.RootSearch.{Gives}
-use Rattle.arrival.specs.FirstCrossing.{IfSome}
+use Rattle.arrival.proofs.FirstCrossing.{IfSome}
 use Rattle.hop.specs.Hop.{Air, air_of, hop_next, hop_step, hop_from, hop}
 use Rattle.hop.specs.declared.Flight.{Flight}
 use Rattle.hop.specs.declared.Way.{Way}

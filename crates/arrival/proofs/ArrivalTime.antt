@@ -12,7 +12,7 @@ use Rattle.tally.specs.Language.{M, look}
 use Rattle.arrival.specs.declared.Arc.{Arc}
 use Rattle.arrival.specs.Arrival.{clearance_at, first_crossing, crossing_time, arc_of, placed, hop_arrival}
 use Rattle.arrival.specs.RootSearch.{Gives, gives_pure, gives_then, gives_bind, crossing_time_within}
-use Rattle.arrival.specs.FirstCrossing.{IfSome, InStep, crossing_ends}
+use Rattle.arrival.proofs.FirstCrossing.{IfSome, InStep, crossing_ends}
 
 -- a state at the time t ⊕ tau, with tau within a step of length h
 pub record ArrivesIn (t h : Float) (b : BallState) : Type 0 where
