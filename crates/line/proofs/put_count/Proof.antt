@@ -5,7 +5,7 @@ use Rattle.line.proofs.put_count.Statement.{statement}
 use Rattle.line.proofs.put_count.Tie as tie
 
 returns : tie.Need-returns
-returns c = before c.before.before.before.before.before.before.put.ensures c.before.before.put-number.ensures
+returns c = before c.put-k.ensures c.put_number.ensures
 
 pub put_count_spec : {M : Type 1} → statement M
 put_count_spec =

@@ -24,40 +24,36 @@ module _ (s : Settled) {l m : List ℕ} {a : ℕ} (x : Puts 27 l 0 (answer_word 
   unfolding shown_of termination_of
   whole e w t u y = rw e (wide {w = 121} (omega arith) (after (both (both x (before w t)) u) y))
 
-returns : tie.Need-returns
+returns : tie.Need-returns-then-s
 returns c =
     let at-put : tie.After-put = search in
-    let at-if1 : tie.Then1 = search in
-    let at-put-count : tie.After-put-count = search in
-    short at-put-count.before.before.before.before.before.args.s at-put-count.put_count.ensures at-if1.if1.taken at-put.put.ensures
+    let at-if1 : tie.Then-s = search in
+    let at-put-count : tie.After-put_count-a = search in
+    short at-put-count.args.s at-put-count.put_count-a.ensures at-if1.if-s.true at-put.put.ensures
 
-returns-2 : tie.Need-returns-2
+returns-2 : tie.Need-returns
 returns-2 c =
-    let at-put3 : tie.After-put3 = search in
-    let at-put-counts : tie.After-put-counts = search in
-    let at-put-termination : tie.After-put-termination = search in
-    let at-put2 : tie.After-put2 = search in
-    let at-if1 : tie.Else1 = search in
-    let at-put-count : tie.After-put-count = search in
-    whole at-put-count.before.before.before.before.before.args.s at-put-count.put_count.ensures at-if1.if1.left at-put2.put2.ensures
-    at-put-termination.put-termination.ensures at-put-counts.put-counts.ensures at-put3.put3.ensures
+    let at-put3 : tie.After-put-2 = search in
+    let at-put-counts : tie.After-put_counts-d = search in
+    let at-put-termination : tie.After-put_termination-c = search in
+    let at-put2 : tie.After-put-b = search in
+    let at-if1 : tie.Else-s = search in
+    let at-put-count : tie.After-put_count-a = search in
+    whole at-put-count.args.s at-put-count.put_count-a.ensures at-if1.if-s.false at-put2.put-b.ensures
+    at-put-termination.put_termination-c.ensures at-put-counts.put_counts-d.ensures at-put3.put-2.ensures
 
 pub put_settled_spec : {M : Type 1} → statement M
 put_settled_spec =
     tie.close
     (tie.spec
     (λ c. search rules)
-    (λ c. search rules)
     (λ c κs. search rules)
-    (λ c. search rules)
     (λ c κs. search rules)
     (λ c. search rules)
     returns
-    (λ c. search rules)
     (λ c κs. search rules)
     (λ c κs. search rules)
     (λ c κs. search rules)
-    (λ c. search rules)
     (λ c κs. search rules)
     (λ c. search rules)
     returns-2)

@@ -14,7 +14,7 @@ unfolding written_line
 written l m r x = rw (x.adds.same, x.adds.next, zero-add)
 
 returns : tie.Need-returns
-returns c = written _ _ _ c.put-settled.ensures
+returns c = written _ _ _ c.put_settled.ensures
 
 pub write_line_spec : {M : Type 1} → statement M
 write_line_spec = tie.close (tie.spec (λ c κs. search rules) returns)
