@@ -2,3 +2,4 @@ pub mod Turns
 pub mod Ways
 pub mod FirstCrossing
 pub mod ArrivalTime
+pub mod Evaluations

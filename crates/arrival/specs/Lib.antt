@@ -2,4 +2,3 @@ pub mod Arrival
 pub mod Inner
 pub mod RootSearch
 pub mod Eighths
-pub mod Evaluations

@@ -30,7 +30,7 @@ use Rattle.arrival.specs.Arrival.{clearance, hop_arrival}
 use Rattle.tally.proofs.Triple.{t_bind, t_test, t_step, t_made}
 use Rattle.arrival.specs.RootSearch.{at_most_200_looks, Gives, gives_pure, gives_then, gives_bind}
 use Rattle.arrival.proofs.FirstCrossing.{IfSome}
-use Rattle.arrival.specs.Evaluations.{arrival_at_most_200}
+use Rattle.arrival.proofs.Evaluations.{arrival_at_most_200}
 use Rattle.arrival.proofs.ArrivalTime.{ArrivesIn, arrival_within}
 use Rattle.hop.specs.Hop.{Air, flight, step_arc, step_end, hop_next, hop_step}
 use Rattle.hop.specs.declared.Flight.{Flight}

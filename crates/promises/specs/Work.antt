@@ -10,7 +10,7 @@ use Rattle.tally.proofs.Triple.{Past, Triple, t_before, t_after, t_both, t_bind,
 use Rattle.tally.specs.declared.Conditions.{Conditions}
 use Rattle.arrival.specs.declared.Arc.{Arc}
 use Rattle.arrival.specs.Arrival.{clearance, hop_arrival}
-use Rattle.arrival.specs.Evaluations.{arrival_at_most_200}
+use Rattle.arrival.proofs.Evaluations.{arrival_at_most_200}
 use Rattle.hop.specs.Hop.{Air, hop_next, hop_step}
 use Rattle.hop.specs.declared.Flight.{Flight}
 use Rattle.roll.specs.Roll.{step_on, held_of, ground_step}
