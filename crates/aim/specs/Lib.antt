@@ -1,4 +1,3 @@
 pub mod Aim
 pub mod Inner
 pub mod Passed
-pub mod First

@@ -33,26 +33,26 @@ module _ (s : List ℕ) (t : Target) (f d : ℕ) (cs ps : List Float) where
   unfolding aim_input_of
   aims x y z h k = rw (x, y, z, le-leb 240 (length s) h, le-leb (length s) 34048 k)
 
-returns : tie.Need-returns
+returns : tie.Need-returns-then-input-lt240
 returns c =
-    let a = c.before.before.before.before.before.args in
-    rw (short a.input.now a.target a.forward a.downward a.contacts.now a.points.now c.before.if1.true, ← c.no-aim.ensures)
+    let a = c.args in
+    rw (short a.input.now a.target a.forward a.downward a.contacts.now a.points.now c.if-input-lt240.true, ← c.no_aim.ensures)
 
-returns-2 : tie.Need-returns-2
+returns-2 : tie.Need-returns-then-input-gt34048
 returns-2 c =
-    let a = c.before.before.before.before.before.before.args in
+    let a = c.args in
     rw (
-      long a.input.now a.target a.forward a.downward a.contacts.now a.points.now (omega arith) c.before.if2.true,
-      ← c.no-aim2.ensures,
+      long a.input.now a.target a.forward a.downward a.contacts.now a.points.now (omega arith) c.if-input-gt34048.true,
+      ← c.no_aim-then-input-gt34048.ensures,
     )
 
-returns-3 : tie.Need-returns-3
+returns-3 : tie.Need-returns
 returns-3 c =
     let at-aim : tie.After-aim = search in
-    let at-shot : tie.After-shot-at = search in
-    let a = at-shot.before.before.before.before.before.before.args in
+    let at-shot : tie.After-shot_at-shot = search in
+    let a = at-shot.args in
     aims a.input.now a.target a.forward a.downward a.contacts.now a.points.now at-aim.aim.ensures (part a.input.now)
-    at-shot.shot_at_lem.ensures (omega arith) at-shot.before.if2.left
+    at-shot.shot_at-shot.ensures (omega arith) at-shot.if-input-gt34048.false
 
 pub aim_input_spec : {M : Type 1} → statement M
 aim_input_spec =

@@ -17,9 +17,9 @@ made a l e r = rw r (ap (λ (w : Aim). into_of w l) e)
 returns : tie.Need-returns
 returns c =
     let at-put : tie.After-put = search in
-    let at-lets : tie.After-b = search in
-    let at-aim : tie.After-aim-input = search in
-    made _ _ at-aim.aim-input.ensures at-put.put.ensures
+    let at-lets : tie.After-b-1 = search in
+    let at-aim : tie.After-aim_input-a = search in
+    made _ _ at-aim.aim_input-a.ensures at-put.put.ensures
 
 pub aim_into_spec : {M : Type 1} → statement M
 aim_into_spec =

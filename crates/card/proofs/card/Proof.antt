@@ -8,36 +8,36 @@ use Rattle.card.proofs.card.Statement.{statement}
 use Rattle.card.proofs.card.Tie as tie
 
 -- the run that was made, and finished
-abbrev run : tie.Else1 → tie.After-settle-input
+abbrev run : tie.Else-s-ne0 → tie.After-settle_input-s
 run c = c.before.before.before.before.before.before
 
-few_there : (c : tie.Else1) → (run c).settle-input.result.contacts ≤ 64
-few_there c = few _ _ _ (run c).settle-input.ensures c.if1.false
+few_there : (c : tie.Else-s-ne0) → (run c).settle_input-s.result.contacts ≤ 64
+few_there c = few _ _ _ (run c).settle_input-s.ensures c.if-s-ne0.false
 
-returns : tie.Need-returns
-returns c = let r : tie.After-settle-input = search in unfinished _ _ _ r.settle-input.ensures _ c.if1.true
+returns : tie.Need-returns-then-s-ne0
+returns c = let r : tie.After-settle_input-s = search in unfinished _ _ _ r.settle_input-s.ensures _ c.if-s-ne0.true
 
-returns-2 : tie.Need-returns-2
+returns-2 : tie.Need-returns-then-page-n
 returns-2 c =
     let e = c.before.before in
-    short _ _ _ (run e).settle-input.ensures _ e.if1.false c.before.if2.true c.page-too-short.ensures
+    short _ _ _ (run e).settle_input-s.ensures _ e.if-s-ne0.false c.if-page-n.true c.page_too_short.ensures
 
-put-contacts-requires : tie.Need-put-contacts-requires
+put-contacts-requires : tie.Need-put_contacts-requires
 put-contacts-requires c κs =
-    let h : tie.After-put-heading = search in
+    let h : tie.After-put_heading-at = search in
     let l = h.before.before in
     let e = l.before in (
-      omega (arith, l.if2.left, next h.put-heading.ensures, h.put-heading.ensures.adds.long),
-      spots _ _ _ (run e).settle-input.ensures e.if1.left,
+      omega (arith, l.if-page-n.false, next h.put_heading-at.ensures, h.put_heading-at.ensures.adds.long),
+      spots _ _ _ (run e).settle_input-s.ensures e.if-s-ne0.false,
     )
 
-returns-3 : tie.Need-returns-3
+returns-3 : tie.Need-returns
 returns-3 c =
     let p = c.before.before in
-    let h : tie.After-put-heading = search in
+    let h : tie.After-put_heading-at = search in
     let l = h.before.before in
     let e = l.before in
-    printed _ _ _ (run e).settle-input.ensures _ e.if1.left l.if2.left h.put-heading.ensures p.put-contacts.ensures
+    printed _ _ _ (run e).settle_input-s.ensures _ e.if-s-ne0.false l.if-page-n.false h.put_heading-at.ensures p.put_contacts.ensures
 
 pub card_spec : {M : Type 1} → statement M
 card_spec =

@@ -10,44 +10,44 @@ use Rattle.card.proofs.put_contact.Tie as tie
 
 -- ---- the places on the way, each from a later one
 
-abbrev start : tie.After-put-signed-right → tie.Start
+abbrev start : tie.After-put_signed_right-a → tie.Start
 start c = c.before.before.before.before
 
-abbrev number : tie.After-put-value → tie.After-put-signed-right
+abbrev number : tie.After-put_value-b → tie.After-put_signed_right-a
 number c = c.before.before.before.before.before
 
-abbrev time : tie.After-put-place → tie.After-put-value
+abbrev time : tie.After-put_place-c → tie.After-put_value-b
 time c = c.before.before.before.before
 
 -- ---- the answers
 
-put-signed-right-requires : tie.Need-put-signed-right-requires
+put-signed-right-requires : tie.Need-put_signed_right-a-requires
 unfolding signed_of
-put-signed-right-requires c κs = let s : tie.Start = search in (omega arith, number_fits _ s.pre.1.number)
+put-signed-right-requires c κs = let s : tie.Start = search in (omega arith, number_fits _ s.requires.1.number)
 
-put-value-requires : tie.Need-put-value-requires
+put-value-requires : tie.Need-put_value-b-requires
 put-value-requires c κs =
-    let n : tie.After-put-signed-right = search in
-    (omega (arith, next n.put-signed-right.ensures), time_fits _ (start n).pre.1.time)
+    let n : tie.After-put_signed_right-a = search in
+    (omega (arith, next n.put_signed_right-a.ensures), time_fits _ (start n).requires.1.time)
 
-put-place-requires : tie.Need-put-place-requires
+put-place-requires : tie.Need-put_place-c-requires
 put-place-requires c κs =
-    let t : tie.After-put-value = search in
+    let t : tie.After-put_value-b = search in
     let n = number t in
-    (omega (arith, next n.put-signed-right.ensures, next t.put-value.ensures), (start n).pre.1.place)
+    (omega (arith, next n.put_signed_right-a.ensures, next t.put_value-b.ensures), (start n).requires.1.place)
 
 put-requires : tie.Need-put-requires
 put-requires c κs =
-    let p : tie.After-put-place = search in
+    let p : tie.After-put_place-c = search in
     let t = time p in
-    omega (arith, next (number t).put-signed-right.ensures, next t.put-value.ensures, next p.put-place.ensures)
+    omega (arith, next (number t).put_signed_right-a.ensures, next t.put_value-b.ensures, next p.put_place-c.ensures)
 
 returns : tie.Need-returns
 returns c =
     let w = c.before.before in
-    let p : tie.After-put-place = search in
+    let p : tie.After-put_place-c = search in
     let t = time p in
-    contact_put _ _ (number t).put-signed-right.ensures t.put-value.ensures p.put-place.ensures w.put.ensures
+    contact_put _ _ (number t).put_signed_right-a.ensures t.put_value-b.ensures p.put_place-c.ensures w.put.ensures
 
 pub put_contact_spec : {M : Type 1} → statement M
 put_contact_spec =
@@ -60,7 +60,6 @@ put_contact_spec =
     (λ c. search rules)
     put-value-requires
     put-place-requires
-    (λ c. search rules)
     put-requires
     (λ c. search rules)
     returns)

@@ -9,33 +9,33 @@ use Rattle.card.proofs.put_place.Tie as tie
 
 -- ---- the places on the way, each from a later one
 
-abbrev start : tie.After-put-value → tie.Start
+abbrev start : tie.After-put_value-a → tie.Start
 start c = c.before.before.before.before.before
 
-abbrev first : tie.After-put-value2 → tie.After-put-value
+abbrev first : tie.After-put_value-b → tie.After-put_value-a
 first c = c.before.before.before.before.before
 
 -- ---- the answers
 
-put-value-requires : tie.Need-put-value-requires
-put-value-requires c κs = let s : tie.Start = search in (omega arith, place_fits _ s.pre.1.x)
+put-value-requires : tie.Need-put_value-a-requires
+put-value-requires c κs = let s : tie.Start = search in (omega arith, place_fits _ s.requires.1.x)
 
-put-value-requires-2 : tie.Need-put-value-requires-2
+put-value-requires-2 : tie.Need-put_value-b-requires
 put-value-requires-2 c κs =
-    let v : tie.After-put-value = search in
-    (omega (arith, next v.put-value.ensures), place_fits _ (start v).pre.1.y)
+    let v : tie.After-put_value-a = search in
+    (omega (arith, next v.put_value-a.ensures), place_fits _ (start v).requires.1.y)
 
-put-value-requires-3 : tie.Need-put-value-requires-3
+put-value-requires-3 : tie.Need-put_value-requires
 put-value-requires-3 c κs =
-    let w : tie.After-put-value2 = search in
+    let w : tie.After-put_value-b = search in
     let v = first w in
-    (omega (arith, next v.put-value.ensures, next w.put-value2.ensures), place_fits _ (start v).pre.1.z)
+    (omega (arith, next v.put_value-a.ensures, next w.put_value-b.ensures), place_fits _ (start v).requires.1.z)
 
 returns : tie.Need-returns
 returns c =
     let x = c.before.before in
-    let w : tie.After-put-value2 = search in
-    place_put _ _ (first w).put-value.ensures w.put-value2.ensures x.put-value3.ensures
+    let w : tie.After-put_value-b = search in
+    place_put _ _ (first w).put_value-a.ensures w.put_value-b.ensures x.put_value.ensures
 
 pub put_place_spec : {M : Type 1} → statement M
 put_place_spec =
