@@ -72,7 +72,8 @@ sums_next s vs k h p q = rw (drop-cons vs k nan h, add-one k, q, p)
 pub sums-append : (s : Sums) (xs ys : List Float) → sums_of s (xs ++ ys) ≡ sums_of (sums_of s xs) ys
 unfolding sums_of
 sums-append s [] ys = refl
-sums-append s (x ∷ xs) ys = sums-append _ xs ys
+sums-append s (x ∷ xs) ys =
+    sums-append (record { a = (s.a + bits_of x) % 2 ^ 64; b = (s.b + (s.a + bits_of x) % 2 ^ 64) % 2 ^ 64 }) xs ys
 
 -- ---- the three parts of the comparison are the whole
 

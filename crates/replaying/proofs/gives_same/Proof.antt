@@ -20,12 +20,12 @@ gives e cs ps {s = s} {cs' = cs'} {ps' = ps'} x y p q t = rw (← y, ← x, p, q
 
 returns : tie.Need-returns
 returns c =
-    let at-same-counts : tie.After-same-counts = search in
-    let at-settle-input : tie.After-settle-input = search in
-    let lent : tie.After-slice-known = search in
-    let a = lent.before.before.args in
-    gives a.entry.now a.contacts.now a.points.now at-settle-input.settle-input.ensures (part a.entry.now)
-    at-same-counts.same-counts.ensures (search rules) c.same_lists.ensures
+    let at-same-counts : tie.After-same_counts = search in
+    let at-settle-input : tie.After-settle_input-s = search in
+    let lent : tie.After-slice_known-1 = search in
+    let a = lent.args in
+    gives a.entry.now a.contacts.now a.points.now at-settle-input.settle_input-s.ensures (part a.entry.now)
+    at-same-counts.same_counts.ensures (search rules) c.same_lists.ensures
 
 pub gives_same_spec : {M : Type 1} → statement M
 gives_same_spec =

@@ -29,70 +29,70 @@ module _ (e : List ℕ) (c p : ℕ) where
   unfolding replayed_of intact
   replays h z x y i j t = rw (le-leb 200 _ h, eq-eqb _ _ z, ← x, ← y, le-leb c 1300 i, le-leb p 7692 j, t)
 
-returns : tie.Need-returns
+returns : tie.Need-returns-then-entry-lt200
 unfolding replayed_of intact
-returns c = rw (lt-leb 200 _ c.if1.true)
+returns c = rw (lt-leb 200 _ c.if-entry-lt200.true)
 
-returns-2 : tie.Need-returns-2
+returns-2 : tie.Need-returns-then-word-entry
 unfolding replayed_of intact
-returns-2 c = rw (le-leb 200 _ c.before.before.if1.false, ← c.before.word.ensures, ne_eqb _ _ c.if2.true)
+returns-2 c = rw (le-leb 200 _ c.if-entry-lt200.false, ← c.word.ensures, ne_eqb _ _ c.if-word-entry.true)
 
-returns-3 : tie.Need-returns-3
+returns-3 : tie.Need-returns-then-c-gt1300
 unfolding replayed_of intact
 returns-3 c =
-    let at-word2 : tie.After-word2 = search in
+    let at-word2 : tie.After-word-c = search in
     let at-if2 = at-word2.before in
     rw (
-      le-leb 200 _ at-if2.before.before.if1.left,
-      ← at-if2.before.word.ensures,
-      eq-eqb _ _ at-if2.if2.left,
-      ← at-word2.word2.ensures,
-      lt-leb _ 1300 c.if3.true,
+      le-leb 200 _ at-if2.if-entry-lt200.false,
+      ← at-if2.word.ensures,
+      eq-eqb _ _ at-if2.if-word-entry.false,
+      ← at-word2.word-c.ensures,
+      lt-leb _ 1300 c.if-c-gt1300.true,
     )
 
-returns-4 : tie.Need-returns-4
+returns-4 : tie.Need-returns-then-p-gt7692
 unfolding replayed_of intact
 returns-4 c =
-    let at-word3 : tie.After-word3 = search in
-    let at-if2 : tie.Else2 = search in
+    let at-word3 : tie.After-word-p = search in
+    let at-if2 : tie.Else-word-entry = search in
     rw (
-      le-leb 200 _ at-if2.before.before.if1.left,
-      ← at-if2.before.word.ensures,
-      eq-eqb _ _ at-if2.if2.left,
-      ← at-word3.before.word2.ensures,
-      le-leb _ 1300 c.before.if3.false,
-      ← at-word3.word3.ensures,
-      lt-leb _ 7692 c.if4.true,
+      le-leb 200 _ at-if2.if-entry-lt200.false,
+      ← at-if2.word.ensures,
+      eq-eqb _ _ at-if2.if-word-entry.false,
+      ← at-word3.word-c.ensures,
+      le-leb _ 1300 c.if-c-gt1300.false,
+      ← at-word3.word-p.ensures,
+      lt-leb _ 7692 c.if-p-gt7692.true,
     )
 
-slice-aggregate-gives-same : tie.Need-slice-aggregate-gives-same
+slice-aggregate-gives-same : tie.Need-slice_bounds-gives_same-end
 slice-aggregate-gives-same c = sym (length-take-le _ _ (search rules))
 
-slice-aggregate-gives-same-2 : tie.Need-slice-aggregate-gives-same-2
+slice-aggregate-gives-same-2 : tie.Need-slice_bounds-gives_same-end-2
 slice-aggregate-gives-same-2 c = sym (length-take-le _ _ (search rules))
 
-abbrev counted : tie.After-gives-same → tie.After-word3
+abbrev counted : tie.After-gives_same → tie.After-word-p
 counted g = g.before.before.before.before.before
 
-abbrev start : tie.After-word3 → tie.Start
+abbrev start : tie.After-word-p → tie.Start
 start c = c.before.before.before.before.before.before
 
-replayed : (g : tie.After-gives-same) → cond g.gives_same.result Same Differs ≡ replayed_of (start (counted g)).args.entry.now
+replayed : (g : tie.After-gives_same) → cond g.gives_same.result Same Differs ≡ replayed_of (start (counted g)).args.entry.now
 replayed g =
     let p = counted g in
     let t = p.before.before in
     let l = g.before.before.before in
-    let c = p.before.word2 in
-    let i = l.before.if3.false in
-    let j = l.if4.false in
-    replays _ _ _ t.before.before.if1.left (sym t.before.word.ensures ∙ t.if2.left) c.ensures p.word3.ensures i j
+    let c = p.word-c in
+    let i = l.if-c-gt1300.false in
+    let j = l.if-p-gt7692.false in
+    replays _ _ _ t.if-entry-lt200.false (sym t.word.ensures ∙ t.if-word-entry.false) c.ensures p.word-p.ensures i j
     (lent _ _ _ 1300 7692 i j g.gives_same.ensures)
 
-returns-5 : tie.Need-returns-5
-returns-5 c = ap (λ (b : Bool). cond b Same Differs) (sym c.if5.true) ∙ replayed c.before.before.before
+returns-5 : tie.Need-returns-then-gives_same
+returns-5 c = ap (λ (b : Bool). cond b Same Differs) (sym c.if-gives_same.true) ∙ replayed c.before.before.before
 
-returns-6 : tie.Need-returns-6
-returns-6 c = ap (λ (b : Bool). cond b Same Differs) (sym c.if5.false) ∙ replayed c.before.before.before
+returns-6 : tie.Need-returns
+returns-6 c = ap (λ (b : Bool). cond b Same Differs) (sym c.if-gives_same.false) ∙ replayed c.before.before.before
 
 pub replay_entry_spec : {M : Type 1} → statement M
 replay_entry_spec =

@@ -5,7 +5,7 @@ use Rattle.replaying.proofs.same_lists.Statement.{statement}
 use Rattle.replaying.proofs.same_lists.Tie as tie
 
 returns : tie.Need-returns
-returns c = rw (c.same-words.ensures, c.before.before.add-list2.ensures, c.before.before.before.add-list.ensures, sums-append)
+returns c = rw (c.same_words.ensures, c.add_list-sums.ensures, c.add_list.ensures, sums-append)
 
 pub same_lists_spec : {M : Type 1} → statement M
 same_lists_spec =
