@@ -207,7 +207,7 @@ module _ (c : Conditions) (paced : Paced c) where
         (each_after o (Bracketed c) TimedFlown (fly c (rebounds c hit) state hit) _ (fly_gives (rebounds c hit) state hit j) (elim [
           | Ground ↦ λ _. each_to_ground state hit j
           | Hop (Arrived b) ↦ λ k. each_after o (Bracketed c) (λ _. Unit) (push_contact state hit.«at» hit.out) _
-                (any (push_contact state hit.«at» hit.out)) (λ _ _. each_train n b k)
+              (any (push_contact state hit.«at» hit.out)) (λ _ _. each_train n b k)
           | Hop (Late b) ↦ λ k. each_after o (Bracketed c) (λ _. Unit) (push_contact state hit.«at» hit.out) _
-                (any (push_contact state hit.«at» hit.out)) (λ _ _ m. tt)
+              (any (push_contact state hit.«at» hit.out)) (λ _ _ m. tt)
         ]) l))

@@ -4,10 +4,9 @@
 ghost use Rattle.std.specs.Prelude.{◌≡◌, ◌+◌, ◌<◌, ◌≤◌, length, IfOk};
 
 use replaying::Replayed;
-use std::fs;
 use std::fs::File;
-use std::io;
 use std::io::Read;
+use std::{fs, io};
 
 // Reads until the buffer is full or the file ends, and gives how many bytes it put at the start.
 fn read_full(file: &mut File, buf: &mut [u8]) -> io::Result<usize>

@@ -19,15 +19,15 @@ aims : (input : List ℕ) (c p : List Float) (x z d : Float) (f g : ℕ) (l b : 
 unfolding aim_door_of
 aims input c p x z d f g l b h e r = rw (eq-eqb _ _ h, r) (ap (λ (w : Into). aim_reported w l) e)
 
-returns : tie.Need-returns
+returns : tie.Need-returns-then-landing-ne10
 unfolding aim_door_of
-returns c = rw (ne_eqb _ _ c.if1.true)
+returns c = rw (ne_eqb _ _ c.if-landing-ne10.true)
 
-returns-2 : tie.Need-returns-2
+returns-2 : tie.Need-returns
 returns-2 c =
-    let a : tie.After-aim-into = search in
-    let e : tie.Else1 = search in
-    aims _ _ _ _ _ _ _ _ _ _ e.if1.left a.aim-into.ensures c.before.before.write-result.ensures
+    let a : tie.After-aim_into-s = search in
+    let e : tie.Else-landing-ne10 = search in
+    aims _ _ _ _ _ _ _ _ _ _ e.if-landing-ne10.false a.aim_into-s.ensures c.write_result.ensures
 
 pub dimple_aim_spec : {M : Type 1} → statement M
 dimple_aim_spec =

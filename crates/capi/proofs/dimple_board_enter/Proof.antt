@@ -18,20 +18,20 @@ enters : (l : List Float) (s : Sent) {d : Door} → length l ≡ board_length �
 unfolding enter_door_of
 enters l s h k x = rw (eq-eqb _ _ h, k) x
 
-returns : tie.Need-returns
+returns : tie.Need-returns-then-board-ne-BOARD_LENGTH
 unfolding enter_door_of
-returns c = rw (ne_eqb _ _ c.if1.true)
+returns c = rw (ne_eqb _ _ c.if-board-ne-BOARD_LENGTH.true)
 
-returns-2 : tie.Need-returns-2
+returns-2 : tie.Need-returns-then-board_ok
 returns-2 c =
     let s = c.before.before in
-    let k : tie.Then2 = search in
-    let e : tie.Else1 = search in
-    enters _ _ e.if1.left (sym k.before.board-ok.ensures ∙ k.if2.taken) s.enter-sent.ensures
+    let k : tie.Then-board_ok = search in
+    let e : tie.Else-board-ne-BOARD_LENGTH = search in
+    enters _ _ e.if-board-ne-BOARD_LENGTH.false (sym k.board_ok.ensures ∙ k.if-board_ok.true) s.enter_sent.ensures
 
-returns-3 : tie.Need-returns-3
+returns-3 : tie.Need-returns
 unfolding enter_door_of
-returns-3 c = let e : tie.Else1 = search in rw (eq-eqb _ _ e.if1.left, sym c.before.board-ok.ensures ∙ c.if2.false)
+returns-3 c = let e : tie.Else-board-ne-BOARD_LENGTH = search in rw (eq-eqb _ _ e.if-board-ne-BOARD_LENGTH.false, sym c.board_ok.ensures ∙ c.if-board_ok.false)
 
 pub dimple_board_enter_spec : {M : Type 1} → statement M
 dimple_board_enter_spec =

@@ -5,15 +5,15 @@ use Rattle.capi.specs.Boards.{new_door_of}
 use Rattle.capi.proofs.dimple_board_new.Statement.{statement}
 use Rattle.capi.proofs.dimple_board_new.Tie as tie
 
-returns : tie.Need-returns
+returns : tie.Need-returns-then-board-ne-BOARD_LENGTH
 unfolding new_door_of
-returns c = rw (ne_eqb _ _ c.if1.true)
+returns c = rw (ne_eqb _ _ c.if-board-ne-BOARD_LENGTH.true)
 
-returns-2 : tie.Need-returns-2
+returns-2 : tie.Need-returns
 unfolding new_door_of
 returns-2 c =
-    let n : tie.After-new = search in
-    rw (eq-eqb _ _ n.before.if1.left, ← n.new.ensures, c.before.before.write-board.ensures)
+    let n : tie.After-new-e = search in
+    rw (eq-eqb _ _ n.if-board-ne-BOARD_LENGTH.false, ← n.new-e.ensures, c.write_board.ensures)
 
 pub dimple_board_new_spec : {M : Type 1} → statement M
 dimple_board_new_spec =

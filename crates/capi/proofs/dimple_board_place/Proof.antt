@@ -23,28 +23,28 @@ places : (l : List Float) (i : ℕ) (out : List Float) {b : Board} {p : Placed} 
 unfolding place_door_of
 places l i out h j k x1 x2 x3 x4 = rw (eq-eqb _ _ h, eq-eqb _ _ j, k, ← x1, ← x2, x4, x3)
 
-returns : tie.Need-returns
+returns : tie.Need-returns-then-board-ne-BOARD_LENGTH
 unfolding place_door_of
-returns c = rw (ne_eqb _ _ c.if1.true)
+returns c = rw (ne_eqb _ _ c.if-board-ne-BOARD_LENGTH.true)
 
-returns-2 : tie.Need-returns-2
+returns-2 : tie.Need-returns-then-shot-ne1
 unfolding place_door_of
-returns-2 c = rw (eq-eqb _ _ c.before.if1.false, ne_eqb _ _ c.if2.true)
+returns-2 c = rw (eq-eqb _ _ c.if-board-ne-BOARD_LENGTH.false, ne_eqb _ _ c.if-shot-ne1.true)
 
-returns-3 : tie.Need-returns-3
+returns-3 : tie.Need-returns-then-board_ok
 returns-3 c =
     let w : tie.After-whole = search in
-    let b : tie.After-board-at = search in
+    let b : tie.After-board_at-b = search in
     let k = b.before in
     let e = k.before.before in
-    places _ _ _ e.before.if1.left e.if2.left (sym k.before.board-ok.ensures ∙ k.if3.taken) b.board-at.ensures
-    w.before.before.place.ensures w.whole.ensures c.before.before.put.ensures
+    places _ _ _ e.if-board-ne-BOARD_LENGTH.false e.if-shot-ne1.false (sym k.board_ok.ensures ∙ k.if-board_ok.true) b.board_at-b.ensures
+    w.place-p.ensures w.whole.ensures c.put.ensures
 
-returns-4 : tie.Need-returns-4
+returns-4 : tie.Need-returns
 unfolding place_door_of
 returns-4 c =
     let e = c.before.before in
-    rw (eq-eqb _ _ e.before.if1.false, eq-eqb _ _ e.if2.false, sym c.before.board-ok.ensures ∙ c.if3.false)
+    rw (eq-eqb _ _ e.if-board-ne-BOARD_LENGTH.false, eq-eqb _ _ e.if-shot-ne1.false, sym c.board_ok.ensures ∙ c.if-board_ok.false)
 
 pub dimple_board_place_spec : {M : Type 1} → statement M
 dimple_board_place_spec =

@@ -19,8 +19,8 @@ cards input c p l page e h = rw (h, ← e)
 
 returns : tie.Need-returns
 returns c =
-    let k : tie.After-card = search in
-    cards _ _ _ _ _ k.card.ensures c.before.before.write-result.ensures
+    let k : tie.After-card-s = search in
+    cards _ _ _ _ _ k.card-s.ensures c.write_result.ensures
 
 pub dimple_card_spec : {M : Type 1} → statement M
 dimple_card_spec =

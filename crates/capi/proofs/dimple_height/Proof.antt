@@ -5,15 +5,15 @@ use Rattle.capi.specs.Doors.{height_door_of}
 use Rattle.capi.proofs.dimple_height.Statement.{statement}
 use Rattle.capi.proofs.dimple_height.Tie as tie
 
-returns : tie.Need-returns
+returns : tie.Need-returns-then-height-ne1
 unfolding height_door_of
-returns c = rw (ne_eqb _ _ c.if1.true)
+returns c = rw (ne_eqb _ _ c.if-height-ne1.true)
 
-returns-2 : tie.Need-returns-2
+returns-2 : tie.Need-returns
 unfolding height_door_of
 returns-2 c =
-    let h : tie.After-height = search in
-    rw (eq-eqb _ _ h.before.if1.left, ← h.height.ensures, c.before.before.put.ensures)
+    let h : tie.After-height-h = search in
+    rw (eq-eqb _ _ h.if-height-ne1.false, ← h.height-h.ensures, c.put.ensures)
 
 pub dimple_height_spec : {M : Type 1} → statement M
 dimple_height_spec =

@@ -20,21 +20,21 @@ makes : (sheet : List ℕ) (b l : List Float) {s : BallState} {m : BallModel} {r
 unfolding impact_door_of
 makes sheet b l h1 h2 x1 x2 x3 x4 = rw (eq-eqb _ _ h1, eq-eqb _ _ h2, ← x1, ← x2, ← x3) x4
 
-returns : tie.Need-returns
+returns : tie.Need-returns-then-ball-ne12
 unfolding impact_door_of
-returns c = rw (ne_eqb _ _ c.if1.true)
+returns c = rw (ne_eqb _ _ c.if-ball-ne12.true)
 
-returns-2 : tie.Need-returns-2
+returns-2 : tie.Need-returns-then-state-ne10
 unfolding impact_door_of
-returns-2 c = rw (eq-eqb _ _ c.before.if1.false, ne_eqb _ _ c.if2.true)
+returns-2 c = rw (eq-eqb _ _ c.if-ball-ne12.false, ne_eqb _ _ c.if-state-ne10.true)
 
-returns-3 : tie.Need-returns-3
+returns-3 : tie.Need-returns
 returns-3 c =
-    let i : tie.After-impact = search in
-    let s : tie.After-state-at = search in
-    let e : tie.Else2 = search in
-    makes _ _ _ e.before.if1.left e.if2.left s.state-at.ensures i.before.ball-at.ensures i.impact.ensures
-    c.before.before.write-impact.ensures
+    let i : tie.After-impact-r = search in
+    let s : tie.After-state_at-s = search in
+    let e : tie.Else-state-ne10 = search in
+    makes _ _ _ e.if-ball-ne12.false e.if-state-ne10.false s.state_at-s.ensures i.ball_at-b.ensures i.impact-r.ensures
+    c.write_impact.ensures
 
 pub dimple_impact_spec : {M : Type 1} → statement M
 dimple_impact_spec =

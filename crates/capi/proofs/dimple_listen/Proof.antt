@@ -20,16 +20,16 @@ unfolding listen_door_of
 listens heard contacts n t marks l h e p q r w =
     rw (eq-eqb _ _ h, w, p, q, r) (ap (λ (v : Listen). listen_reported v l) e)
 
-returns : tie.Need-returns
+returns : tie.Need-returns-then-totals-ne3
 unfolding listen_door_of
-returns c = rw (ne_eqb _ _ c.if1.true)
+returns c = rw (ne_eqb _ _ c.if-totals-ne3.true)
 
-returns-2 : tie.Need-returns-2
+returns-2 : tie.Need-returns
 returns-2 c =
-    let w : tie.After-whole3 = search in
-    let l : tie.After-listen = search in
-    listens _ _ _ _ _ _ l.before.before.if1.left l.listen.ensures w.before.before.whole.ensures w.before.whole2.ensures
-    w.whole3.ensures c.before.before.put.ensures
+    let w : tie.After-whole-3 = search in
+    let l : tie.After-listen-h = search in
+    listens _ _ _ _ _ _ l.if-totals-ne3.false l.listen-h.ensures w.whole.ensures w.whole-2.ensures
+    w.whole-3.ensures c.put.ensures
 
 pub dimple_listen_spec : {M : Type 1} → statement M
 dimple_listen_spec =

@@ -7,8 +7,8 @@ use Rattle.capi.proofs.dimple_settle_fading.Tie as tie
 
 returns : tie.Need-returns
 returns c =
-    let s : tie.After-settle-input = search in
-    settles true _ _ _ _ s.settle-input.ensures c.before.before.write-result.ensures
+    let s : tie.After-settle_input-s = search in
+    settles true _ _ _ _ s.settle_input-s.ensures c.write_result.ensures
 
 pub dimple_settle_fading_spec : {M : Type 1} → statement M
 dimple_settle_fading_spec =

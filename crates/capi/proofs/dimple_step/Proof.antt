@@ -20,27 +20,27 @@ makes : (sheet : List ℕ) (p b l : List Float) {s : BallState} {m : BallModel} 
 unfolding step_door_of
 makes sheet p b l h1 h2 h3 x1 x2 x3 x4 = rw (eq-eqb _ _ h1, eq-eqb _ _ h2, eq-eqb _ _ h3, ← x1, ← x2, ← x3) x4
 
-returns : tie.Need-returns
+returns : tie.Need-returns-then-physics-ne3
 unfolding step_door_of
-returns c = rw (ne_eqb _ _ c.if1.true)
+returns c = rw (ne_eqb _ _ c.if-physics-ne3.true)
 
-returns-2 : tie.Need-returns-2
+returns-2 : tie.Need-returns-then-ball-ne12
 unfolding step_door_of
-returns-2 c = rw (eq-eqb _ _ c.before.if1.false, ne_eqb _ _ c.if2.true)
+returns-2 c = rw (eq-eqb _ _ c.if-physics-ne3.false, ne_eqb _ _ c.if-ball-ne12.true)
 
-returns-3 : tie.Need-returns-3
+returns-3 : tie.Need-returns-then-state-ne-STATE_LENGTH
 unfolding step_door_of
 returns-3 c =
     let e = c.before in
-    rw (eq-eqb _ _ e.before.if1.false, eq-eqb _ _ e.if2.false, ne_eqb _ _ c.if3.true)
+    rw (eq-eqb _ _ e.if-physics-ne3.false, eq-eqb _ _ e.if-ball-ne12.false, ne_eqb _ _ c.if-state-ne-STATE_LENGTH.true)
 
-returns-4 : tie.Need-returns-4
+returns-4 : tie.Need-returns
 returns-4 c =
-    let s : tie.After-step = search in
-    let m : tie.After-ball-at = search in
-    let e : tie.Else3 = search in
-    makes _ _ _ _ e.before.before.if1.left e.before.if2.left e.if3.left m.before.state-at.ensures m.ball-at.ensures s.step.ensures
-    c.before.before.write_step.ensures
+    let s : tie.After-step-r = search in
+    let m : tie.After-ball_at-b = search in
+    let e : tie.Else-state-ne-STATE_LENGTH = search in
+    makes _ _ _ _ e.if-physics-ne3.false e.if-ball-ne12.false e.if-state-ne-STATE_LENGTH.false m.state_at-s.ensures m.ball_at-b.ensures s.step-r.ensures
+    c.write_step.ensures
 
 pub dimple_step_spec : {M : Type 1} → statement M
 dimple_step_spec =

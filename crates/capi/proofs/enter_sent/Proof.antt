@@ -22,17 +22,17 @@ enters : (l : List Float) (s : Sent) {b : Board} {t : Termination} {e : Entered}
 unfolding sent_of
 enters l s k x1 x2 x3 x4 = rw (k, ← x1, ← x2, ← x3) x4
 
-returns : tie.Need-returns
+returns : tie.Need-returns-then-termination
 unfolding is_end
 returns c =
     let e : tie.After-enter = search in
-    let b : tie.After-board-at = search in
-    enters _ _ b.before.before.if1.taken b.board-at.ensures e.before.before.termination-of.ensures e.enter.ensures
-    c.before.before.write-entered.ensures
+    let b : tie.After-board_at-b = search in
+    enters _ _ b.if-termination.true b.board_at-b.ensures e.termination_of.ensures e.enter.ensures
+    c.write_entered.ensures
 
-returns-2 : tie.Need-returns-2
+returns-2 : tie.Need-returns
 unfolding sent_of is_end entered
-returns-2 c = rw c.if1.false
+returns-2 c = rw c.if-termination.false
 
 pub enter_sent_spec : {M : Type 1} → statement M
 enter_sent_spec =

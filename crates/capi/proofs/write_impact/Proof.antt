@@ -5,13 +5,13 @@ use Rattle.capi.specs.Doors.{struck}
 use Rattle.capi.proofs.write_impact.Statement.{statement}
 use Rattle.capi.proofs.write_impact.Tie as tie
 
-returns : tie.Need-returns
+returns : tie.Need-returns-then-answer-ne0
 unfolding struck
-returns c = rw (ne_eqb _ _ c.if1.true)
+returns c = rw (ne_eqb _ _ c.if-answer-ne0.true)
 
-returns-2 : tie.Need-returns-2
+returns-2 : tie.Need-returns
 unfolding struck
-returns-2 c = let e : tie.Else1 = search in rw (eq-eqb _ _ e.if1.left, c.before.before.put.ensures)
+returns-2 c = let e : tie.Else-answer-ne0 = search in rw (eq-eqb _ _ e.if-answer-ne0.false, c.put.ensures)
 
 pub write_impact_spec : {M : Type 1} → statement M
 write_impact_spec =

@@ -6,16 +6,16 @@ use Rattle.capi.specs.Doors.{stepped}
 use Rattle.capi.proofs.write_step.Statement.{statement}
 use Rattle.capi.proofs.write_step.Tie as tie
 
-returns : tie.Need-returns
+returns : tie.Need-returns-then-answer-ne0
 unfolding stepped of_bits round
-returns c = let t : tie.Then1 = search in rw (ne_eqb _ _ t.if1.taken, c.before.before.put.ensures)
+returns c = let t : tie.Then-answer-ne0 = search in rw (ne_eqb _ _ t.if-answer-ne0.true, c.put.ensures)
 
-returns-2 : tie.Need-returns-2
+returns-2 : tie.Need-returns
 unfolding stepped
 returns-2 c =
-    let w : tie.After-whole = search in
-    let e : tie.Else1 = search in
-    rw (eq-eqb _ _ e.if1.left, c.before.before.put2.ensures, w.whole.ensures)
+    let w : tie.After-whole-phase = search in
+    let e : tie.Else-answer-ne0 = search in
+    rw (eq-eqb _ _ e.if-answer-ne0.false, c.put-2.ensures, w.whole-phase.ensures)
 
 pub write_step_spec : {M : Type 1} → statement M
 write_step_spec =

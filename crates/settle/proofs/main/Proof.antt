@@ -19,11 +19,11 @@ counts {r} {m} t l e =
     let h : r ≤ length m = omega (arith, length-append t (drop (length t) l)) in
     (h, sym (length-take-le r m h))
 
-array-share-prefix-out : tie.Need-array-share-prefix-out
-array-share-prefix-out c = (counts _ _ c.write-answer.ensures).0
+array-share-prefix-out : tie.Need-slice_bounds-out-end
+array-share-prefix-out c = (counts _ _ c.write_answer-k.ensures).0
 
-slice-aggregate-write-all : tie.Need-slice-aggregate-write-all
-slice-aggregate-write-all c = (counts _ _ c.before.write-answer.ensures).1
+slice-aggregate-write-all : tie.Need-slice_bounds-write_all-end
+slice-aggregate-write-all c = (counts _ _ c.write_answer-k.ensures).1
 
 pub main_spec : {M : Type 1} → statement M
 main_spec =

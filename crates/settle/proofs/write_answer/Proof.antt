@@ -30,7 +30,7 @@ written l e h = rw (← h) e
 returns : tie.Need-returns
 returns c =
     let at-settle-input = c.before.before.before.before in
-    written _ c.write-line.ensures (program _ at-settle-input.settle-input.ensures)
+    written _ c.write_line.ensures (program _ at-settle-input.settle_input-s.ensures)
 
 pub write_answer_spec : {M : Type 1} → statement M
 write_answer_spec =
