@@ -20,8 +20,8 @@ use Rattle.tally.specs.Language.{contact_width, contact_of}
 use Rattle.records.specs.Records.{Records, flat, shown}
 use Rattle.ground.specs.Settle.{Result, settle_of}
 use Rattle.promises.specs.Terms.{Each, ContactOf}
-use Rattle.promises.specs.Finite.{Leaves, settle_leaves}
-use Rattle.promises.specs.Promises.{answered, most_contacts}
+use Rattle.promises.proofs.Finite.{Leaves, settle_leaves}
+use Rattle.promises.proofs.Promises.{answered, most_contacts}
 use Rattle.fields.specs.Fields.{double_at}
 use Rattle.input.specs.Input.{shot_at, sheet_at, settle_input_by, settle_input_of}
 use Rattle.card.specs.Card.{heading_line, contact_at, lines_of, text_of}

@@ -1,4 +1,4 @@
--- Statements. What 01 promises of `step`, `impact` and `height`, of every call: which answers each can give, and what comes with each. Assumes nothing.
+-- Definitions. What 01 promises of `step`, `impact` and `height`, of every call: which answers each can give, and what comes with each. Assumes nothing.
 use Rattle.std.specs.Prelude.{ℕ, ◌≡◌, ◌⊎◌, Bool, ◌||◌, cond, List, [], ◌∷◌, T, eqb, Float}
 use Rattle.std.proofs.Math.Path.{refl}
 use Rattle.std.proofs.Common.{ap, inr}
@@ -30,30 +30,6 @@ abbrev pub among : List ℕ → ℕ → Bool
 among [] n = false
 among (k ∷ l) n = eqb n k || among l n
 
--- a part that looks and tests stops with 22 alone
-module _ {o : Oracle} where
-  looks_22 : (x z : Float) → Triple o (λ _. Unit {0}) (look x z) (λ _ _. Unit {0}) (λ n _. n ≡ 22)
-  looks_22 x z = t_look x z (λ w _ _. tt) (λ w _ _. refl)
-
-  tests_22 : (s : BallState) → Triple o (λ _. Unit {0}) (test s) (λ b _. Unit {0} × (state_ok b ≡ true)) (λ n _. n ≡ 22)
-  tests_22 s = t_test s (λ w _ e. (tt, e)) (λ w _ _. refl)
-
-module _ (o : Oracle) {A : Type 0} (Q : A → Type 0) where
-  abbrev Tested : M A → Type 0
-  Tested m = Triple o (λ _. Unit {0}) m (λ a _. Q a) (λ n _. n ≡ 22)
-
-  -- a value with Q, or 22
-  abbrev Given : Outcome A → Type 0
-  Given (goes a) = Q a
-  Given (stops n) = n ≡ 22
-
-  given : (m : M A) → Tested m → (l : Log) → Given (exec o no_rect (m l)).value.outcome
-  given m t l = rw (exec_is o no_rect (m l)) (go (run o (m l)).outcome _ (of_run o t l tt))
-    where
-      go : (x : Outcome A) (w : Past) → After (λ a _. Q a) (λ n _. n ≡ 22) x w → Given x
-      go (goes a) w h = h
-      go (stops n) w h = h
-
 -- ---- step
 
 module _ (sheet : List ℕ) (dt stop threshold : Float) (ball : BallModel) (state : BallState) where
@@ -61,69 +37,12 @@ module _ (sheet : List ℕ) (dt stop threshold : Float) (ball : BallModel) (stat
   abbrev pub StepSays : StepOut → Type 0
   StepSays r = ((r.answer ≡ 0) × (state_ok r.state ≡ true)) ⊎ (T (among (1 ∷ 2 ∷ 3 ∷ 4 ∷ 5 ∷ 7 ∷ 22 ∷ []) r.answer) × (r.state ≡ state) × (r.phase ≡ 0))
 
-  step_run_lem : Tested (course_of sheet) (λ (r : StepOut). (r.answer ≡ 0) × (state_ok r.state ≡ true)) (step_run dt stop threshold ball state)
-  unfolding step_run
-  step_run_lem = t_bind (looks_22 _ _) (λ s. t_bind (looks_22 _ _) (λ under. t_then (tests_22 _) (λ b e. t_pure (λ w _. (refl, e)))))
-
-  step_made_lem : StepSays (step_made sheet dt stop threshold ball state)
-  unfolding step_made
-  step_made_lem = go (exec (course_of sheet) no_rect (step_run dt stop threshold ball state (first_log state 0 0))).value.outcome
-      (given (course_of sheet) (λ r. (r.answer ≡ 0) × (state_ok r.state ≡ true)) (step_run dt stop threshold ball state) step_run_lem (first_log state 0 0))
-    where
-      go : (x : Outcome StepOut) → Given (course_of sheet) (λ (r : StepOut). (r.answer ≡ 0) × (state_ok r.state ≡ true)) x → StepSays (step_by state x)
-      go (goes r) h = inl h
-      go (stops n) h = rw h (inr (tt, refl, refl))
-
-  pub step_says : StepSays (step_of sheet dt stop threshold ball state)
-  unfolding step_of step_test answer_of
-  step_says =
-      go (header_ok sheet) (all (surface_ok sheet) (surfaces sheet) 0) (all (patch_ok sheet) (patches sheet) (surfaces sheet))
-      (step_physics_ok dt stop threshold) (ball_ok ball) (landing_ok state) refl refl refl refl refl refl
-    where
-      go : (a b c d e f : Bool) → header_ok sheet ≡ a → all (surface_ok sheet) (surfaces sheet) 0 ≡ b → all (patch_ok sheet) (patches sheet) (surfaces sheet) ≡ c
-          → step_physics_ok dt stop threshold ≡ d → ball_ok ball ≡ e → landing_ok state ≡ f → StepSays (step_of sheet dt stop threshold ball state)
-      go false b c d e f i j k l m n = rw i (inr (tt, refl, refl))
-      go true false c d e f i j k l m n = rw (i, j) (inr (tt, refl, refl))
-      go true true false d e f i j k l m n = rw (i, j, k) (inr (tt, refl, refl))
-      go true true true false e f i j k l m n = rw (i, j, k, l) (inr (tt, refl, refl))
-      go true true true true false f i j k l m n = rw (i, j, k, l, m) (inr (tt, refl, refl))
-      go true true true true true false i j k l m n = rw (i, j, k, l, m, n) (inr (tt, refl, refl))
-      go true true true true true true i j k l m n = rw (i, j, k, l, m, n) step_made_lem
-
 -- ---- impact
 
 module _ (sheet : List ℕ) (ball : BallModel) (state : BallState) where
   -- 0, and a state that passes test 22; or 1, 2, 3, 5, 7 or 22, and the given state
   abbrev pub ImpactSays : ImpactOut → Type 0
   ImpactSays r = ((r.answer ≡ 0) × (state_ok r.state ≡ true)) ⊎ (T (among (1 ∷ 2 ∷ 3 ∷ 5 ∷ 7 ∷ 22 ∷ []) r.answer) × (r.state ≡ state))
-
-  impact_run_lem : Tested (course_of sheet) (λ (s : BallState). state_ok s ≡ true) (impact_run ball state)
-  unfolding impact_run
-  impact_run_lem = t_bind (looks_22 _ _) (λ s. t_then (tests_22 _) (λ b e. t_pure (λ w _. e)))
-
-  impact_made_lem : ImpactSays (impact_made sheet ball state)
-  unfolding impact_made
-  impact_made_lem = go (exec (course_of sheet) no_rect (impact_run ball state (first_log state 0 0))).value.outcome
-      (given (course_of sheet) (λ s. state_ok s ≡ true) (impact_run ball state) impact_run_lem (first_log state 0 0))
-    where
-      go : (x : Outcome BallState) → Given (course_of sheet) (λ (s : BallState). state_ok s ≡ true) x → ImpactSays (impact_by state x)
-      go (goes r) h = inl (refl, h)
-      go (stops n) h = rw h (inr (tt, refl))
-
-  pub impact_says : ImpactSays (impact_answer sheet ball state)
-  unfolding impact_answer impact_test answer_of
-  impact_says =
-      go (header_ok sheet) (all (surface_ok sheet) (surfaces sheet) 0) (all (patch_ok sheet) (patches sheet) (surfaces sheet)) (ball_ok ball) (landing_ok state)
-      refl refl refl refl refl
-    where
-      go : (a b c e f : Bool) → header_ok sheet ≡ a → all (surface_ok sheet) (surfaces sheet) 0 ≡ b → all (patch_ok sheet) (patches sheet) (surfaces sheet) ≡ c
-          → ball_ok ball ≡ e → landing_ok state ≡ f → ImpactSays (impact_answer sheet ball state)
-      go false b c e f i j k m n = rw i (inr (tt, refl))
-      go true false c e f i j k m n = rw (i, j) (inr (tt, refl))
-      go true true false e f i j k m n = rw (i, j, k) (inr (tt, refl))
-      go true true true false f i j k m n = rw (i, j, k, m) (inr (tt, refl))
-      go true true true true false i j k m n = rw (i, j, k, m, n) (inr (tt, refl))
-      go true true true true true i j k m n = rw (i, j, k, m, n) impact_made_lem
 
 -- ---- height
 
@@ -133,16 +52,3 @@ module _ (sheet : List ℕ) (x z : Float) where
   HeightSays r =
       ((r.answer ≡ 0) × T (finite_of r.height) × (r.height ≡ (course_of sheet x z).height))
       ⊎ (T (among (1 ∷ 2 ∷ 3 ∷ 11 ∷ []) r.answer) × (r.height ≡ dec 0 1))
-
-  pub height_says : HeightSays (height_of sheet x z)
-  unfolding height_of answer_of
-  height_says =
-      go (header_ok sheet) (all (surface_ok sheet) (surfaces sheet) 0) (all (patch_ok sheet) (patches sheet) (surfaces sheet)) (spot_ok x z) refl refl refl refl
-    where
-      go : (a b c d : Bool) → header_ok sheet ≡ a → all (surface_ok sheet) (surfaces sheet) 0 ≡ b → all (patch_ok sheet) (patches sheet) (surfaces sheet) ≡ c
-          → spot_ok x z ≡ d → HeightSays (height_of sheet x z)
-      go false b c d i j k l = rw i (inr (tt, refl))
-      go true false c d i j k l = rw (i, j) (inr (tt, refl))
-      go true true false d i j k l = rw (i, j, k) (inr (tt, refl))
-      go true true true false i j k l = rw (i, j, k, l) (inr (tt, refl))
-      go true true true true i j k l = rw (i, j, k, l) (inl (refl, height_finite sheet x z (rw (i, j, k)) (rw l tt), refl))

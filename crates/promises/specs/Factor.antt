@@ -1,4 +1,4 @@
--- Statements. Both settles are one, over the factor by which a hop step multiplies the spin (02, paper 13). Lemmas: Alike.
+-- Definitions. Both settles are one, over the factor by which a hop step multiplies the spin (02, paper 13). Lemmas: Alike.
 use Rattle.std.specs.Prelude.{◌≡◌, Bool, List, ℕ, ◌-◌, Float, length}
 use Rattle.std.proofs.Math.Path.{refl, sym}
 use Rattle.std.proofs.Common.{◌∙◌}
@@ -13,8 +13,6 @@ use Rattle.hop.specs.Fade.{Doubles, factor_of, hop_fading, hop_held, held_hop, f
 use Rattle.train.specs.Train.{train}
 use Rattle.ground.specs.Settle.{Result, conditions_of, first_log, run_by, run_of, settle_by, settle_of}
 use Rattle.input.specs.Input.{real_at, vec_at, landing_at, sheet_at, shot_by, settle_input_by}
-use Rattle.promises.specs.Program.{Sized}
-use Rattle.promises.specs.Alike.{alike_exec, train_alike}
 
 module _ (sheet : List ℕ) (shot : Shot) (cs ps : List Float) where
   -- the settle over a factor, a function of the step's length: each hop step flies with the spin it began with, and then the spin is multiplied
@@ -24,34 +22,3 @@ module _ (sheet : List ℕ) (shot : Shot) (cs ps : List Float) where
   -- the settle of ground.rs, in which a hop holds its spin
   abbrev pub settle_held : Result
   settle_held = settle_by sheet shot cs ps (run_by hop_held shot (length cs) (length ps))
-
-  -- the first settle is that of ground.rs, word for word
-  pub first_settle : shot.fading ≡ false → settle_of sheet shot cs ps ≡ settle_held
-  unfolding settle_of run_of train conditions_of
-  first_settle h = rw (held_hop (conditions_of shot) h)
-
-  -- and so is the settle over the factor 1
-  pub factor_1 : Doubles shot.landing.spin → settle_fading (λ _. dec 1 1) ≡ settle_held
-  unfolding train conditions_of
-  factor_1 d =
-      let n = shot.physics.max_impacts - 1 in
-      rw (alike_exec (train_alike (conditions_of shot) n shot.landing d) (course_of sheet) (first_log shot.landing (length cs) (length ps)))
-
-  -- both settles are the one over the factor
-  pub both_settles : Doubles shot.landing.spin → settle_of sheet shot cs ps ≡ settle_fading (factor_of shot.fading)
-  unfolding settle_of run_of train conditions_of
-  both_settles d = go shot.fading refl
-    where
-      go : (b : Bool) → shot.fading ≡ b → settle_of sheet shot cs ps ≡ settle_fading (factor_of b)
-      go true h = rw (faded_hop (conditions_of shot) h)
-      go false h = first_settle h ∙ sym (factor_1 d)
-
--- of every input of 240 to 34,048 bytes, whose numbers are doubles: the first settle's is that over the factor 1, the second's that over exp(−(0.04×h))
-module _ (s : List ℕ) (cs ps : List Float) where
-  spin_read : Doubles (landing_at s).spin
-  unfolding landing_at vec_at real_at
-  spin_read = record { x = of_bits-fits binary64 _; y = of_bits-fits binary64 _; z = of_bits-fits binary64 _ }
-
-  pub inputs_by_factor : (fading : Bool) → Sized s → settle_input_by fading s cs ps ≡ settle_fading (sheet_at s) (shot_by fading s) cs ps (factor_of fading)
-  unfolding settle_input_by shot_by
-  inputs_by_factor fading h = rw (le-leb 240 (length s) h.0, le-leb (length s) 34048 h.1) (both_settles (sheet_at s) (shot_by fading s) cs ps spin_read)

@@ -7,7 +7,6 @@ use Rattle.std.proofs.Math.Dec.{leb}
 use borrow.Author.Tests.{leb-true, leb-false, le-leb}
 use Rattle.ground.specs.Settle.{Result, result_of, refusal, settle_of}
 use Rattle.input.specs.Input.{shot_at, sheet_at, settle_input_by, settle_input_of}
-use Rattle.promises.specs.Promises.{answers}
 
 -- 01, 12: "under 240 or over 34,048 bytes"
 abbrev pub Sized : List ℕ → Type 0
@@ -28,11 +27,3 @@ module _ (s : List ℕ) (cs ps : List Float) where
   pub sized : Sized s → settle_input_of s cs ps ≡ settle_of (sheet_at s) (shot_at s) cs ps
   unfolding settle_input_by
   sized h = rw (le-leb 240 (length s) h.0, le-leb (length s) 34048 h.1)
-
-  -- and 12 is not among a settle's answers: so 12 comes exactly with an input of another size
-  pub only_12 : (settle_input_of s cs ps).settled.answer ≡ 12 → Sized s → ⊥
-  only_12 e h = no (answers (sheet_at s) (shot_at s) cs ps) (rw (sized h) at e)
-    where
-      no : {n : ℕ} → (n ≤ 8) ⊎ ((20 ≤ n) × (n ≤ 23)) → n ≡ 12 → ⊥
-      no (inl a) d = omega (arith, a, d)
-      no (inr a) d = let b = a.0 in omega (arith, b, d)

@@ -32,7 +32,7 @@ use Rattle.strike.specs.declared.Flown.TheVariants.{Hop, Ground}
 use Rattle.promises.specs.Passes.{Made, in_air, on_ground, Each, followed, after, loop_passes, hop_passes, ground_passes, fly_passes, to_ground_passes}
 use Rattle.promises.specs.Passes.{train_passes}
 use Rattle.promises.specs.Bracketed.{Timed, Later, HopLeads, GroundLeads, Bracketed}
-use Rattle.promises.specs.OnePass.{Paced, either, given_test, time_either, hop_pass, ground_pass}
+use Rattle.promises.proofs.OnePass.{Paced, either, given_test, time_either, hop_pass, ground_pass}
 
 -- what a part gives is known by more
 pub gives_map : {A : Type 0} (P Q : A → Type 0) (m : M A) → ((a : A) → P a → Q a) → Gives P m → Gives Q m

@@ -41,9 +41,9 @@ use Rattle.ground_phase.specs.GroundPhase.{time_up}
 use Rattle.state.specs.declared.Phase.TheVariants.{Hop as InHop}
 use Rattle.train.specs.Train.{train_from_by}
 use Rattle.roll.specs.declared.Ending.{Ending}
-use Rattle.promises.specs.Parts.{one_of}
-use Rattle.promises.specs.OnePass.{either, given_test, given_made}
-use Rattle.promises.specs.EachPass.{On, gives_map, gives_loop}
+use Rattle.promises.proofs.Parts.{one_of}
+use Rattle.promises.proofs.OnePass.{either, given_test, given_made}
+use Rattle.promises.proofs.EachPass.{On, gives_map, gives_loop}
 
 -- ---- programs that run alike
 

@@ -40,7 +40,7 @@ use Rattle.roll.specs.Roll.{step_on, held_of, put_down, ground_step}
 use Rattle.roll.specs.Evaluations.{pass_at_most_200}
 use Rattle.roll.specs.declared.Roll.{Roll}
 use Rattle.roll.specs.declared.Ending.{Ending}
-use Rattle.promises.specs.Finite.{state_finite}
+use Rattle.promises.proofs.Finite.{state_finite}
 use Rattle.promises.specs.Bracketed.{Timed, Later, HopLeads, GroundLeads, HopBracket, GroundBracket}
 use Prim.Native.Nat.{zero}
 use Rattle.shot.specs.declared.Shot.{Shot}

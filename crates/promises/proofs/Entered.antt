@@ -10,8 +10,8 @@ use Rattle.shot.specs.declared.Shot.{Shot}
 use Rattle.state.specs.declared.Termination.{Termination}
 use Rattle.state.specs.declared.Termination.TheVariants.{Nothing, Rest, MaxTime, MaxImpacts}
 use Rattle.ground.specs.Settle.{termination_number, settle_of}
-use Rattle.promises.specs.Finite.{settle_leaves}
-use Rattle.promises.specs.Promises.{answered, finished}
+use Rattle.promises.proofs.Finite.{settle_leaves}
+use Rattle.promises.proofs.Promises.{answered, finished}
 use Rattle.ground.specs.declared.Settled.{Settled}
 use Rattle.board.specs.declared.Board.{Board}
 use Rattle.board.specs.declared.Entry.{Entry}

@@ -17,7 +17,7 @@ use Rattle.roll.specs.Roll.{step_on, held_of, ground_step}
 use Rattle.roll.specs.Evaluations.{pass_at_most_200}
 use Rattle.roll.specs.declared.Roll.{Roll}
 use Rattle.train.specs.Train.{train}
-use Rattle.promises.specs.Parts.{l_hop_arrival}
+use Rattle.promises.proofs.Parts.{l_hop_arrival}
 use Rattle.promises.specs.Always.{Holds, Words, w_look, w_test, w_point, train_holds}
 
 -- n evaluations more would still be at most 200 a step

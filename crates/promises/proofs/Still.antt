@@ -19,7 +19,7 @@ use Rattle.state.specs.declared.BallState.{BallState}
 use Rattle.state.specs.State.{state_ok}
 use Rattle.surface.specs.declared.GroundSample.{GroundSample}
 use Rattle.contact.specs.Contact.{tangent, onto_of}
-use Rattle.promises.specs.Finite.{state_finite}
+use Rattle.promises.proofs.Finite.{state_finite}
 
 -- 0 of either sign, or a NaN
 abbrev Nought : Float → Type 0

@@ -35,9 +35,9 @@ use Rattle.ground.specs.Settle.{Result, answer_by, how_by, rest_by, report_of, c
 use Rattle.promises.specs.Samples.{Sampled, sampled, number_finite, clearance_finite}
 use Rattle.tally.proofs.Triple.{Past, past, After, misses, of_run, of_every_run}
 use Rattle.promises.specs.Terms.{Answer, Each, PointOf, Clear, ContactOf, Failed}
-use Rattle.promises.specs.Work.{train_works}
+use Rattle.promises.proofs.Work.{train_works}
 use Rattle.promises.specs.Keeps.{Setting, Sound, Why, contacts_full, points_full, failed, limit_reached, Stops, at_ok}
-use Rattle.promises.specs.Parts.{Ended, train_keeps}
+use Rattle.promises.proofs.Parts.{Ended, train_keeps}
 
 -- ---- the landing: 7 is narrower than test 22
 

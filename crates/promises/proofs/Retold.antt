@@ -18,13 +18,14 @@ use Rattle.roll.specs.declared.Ending.{Ending}
 use Rattle.ground.specs.Passed.{settle_passes}
 use Rattle.ground.specs.Settle.{Result, how_by, rest_by, report_of, conditions_of, first_log, run_of, settle_of}
 use Rattle.promises.specs.Terms.{PointOf, ContactOf}
-use Rattle.promises.specs.Finite.{landing_passes, value_is, Leaves, settle_leaves}
-use Rattle.promises.specs.Promises.{number, answered, finished}
+use Rattle.promises.proofs.Finite.{landing_passes, value_is, Leaves, settle_leaves}
+use Rattle.promises.specs.Promises.{number}
+use Rattle.promises.proofs.Promises.{answered, finished}
 use Rattle.promises.specs.Bracketed.{Timed}
-use Rattle.promises.specs.OnePass.{Paced, holds, accepted_paced}
+use Rattle.promises.proofs.OnePass.{Paced, holds, accepted_paced}
 use Rattle.promises.specs.Ordered.{each_long, recs_shown}
-use Rattle.promises.specs.Walked.{Any}
-use Rattle.promises.specs.Told.{Told, t_train}
+use Rattle.promises.proofs.Walked.{Any}
+use Rattle.promises.proofs.Told.{Told, t_train}
 
 module _ (sheet : List ℕ) (shot : Shot) (cs ps : List Float) where
   abbrev got : Result

@@ -40,11 +40,11 @@ use Rattle.roll.specs.declared.Roll.{Roll}
 use Rattle.roll.specs.declared.Ending.{Ending}
 use Rattle.ground_phase.specs.GroundPhase.{time_up, ground_from, ground}
 use Rattle.promises.specs.Terms.{Ok, under, Placed}
-use Rattle.promises.specs.Finite.{state_finite}
+use Rattle.promises.proofs.Finite.{state_finite}
 use Rattle.promises.specs.Bracketed.{Timed, Later, HopLeads, GroundLeads}
-use Rattle.promises.specs.OnePass.{Paced, hop_pass, ground_pass}
-use Rattle.promises.specs.Parts.{l_clearance, l_arrival, state_of, put_stays, same_under}
-use Rattle.promises.specs.Still.{onto_still, onto_0, onto_ground}
+use Rattle.promises.proofs.OnePass.{Paced, hop_pass, ground_pass}
+use Rattle.promises.proofs.Parts.{l_clearance, l_arrival, state_of, put_stays, same_under}
+use Rattle.promises.proofs.Still.{onto_still, onto_0, onto_ground}
 use Rattle.promises.specs.Table.{standing, Rested}
 
 -- nothing is said of a run that stops

@@ -23,12 +23,12 @@ use Rattle.shot.specs.Tests.{vec_about, landing_ok}
 use Rattle.ground.specs.Passed.{settle_passes}
 use Rattle.ground.specs.Settle.{settle_of}
 use Rattle.promises.specs.Terms.{Each, ContactOf}
-use Rattle.promises.specs.Finite.{settle_leaves}
-use Rattle.promises.specs.Promises.{answered}
+use Rattle.promises.proofs.Finite.{settle_leaves}
+use Rattle.promises.proofs.Promises.{answered}
 use Rattle.promises.specs.Table.{time_of, NextFrom, FirstAt, InOrder}
 use Rattle.promises.specs.Ordered.{each_long}
-use Rattle.promises.specs.Retold.{contacts_are}
-use Rattle.promises.specs.History.{history}
+use Rattle.promises.proofs.Retold.{contacts_are}
+use Rattle.promises.proofs.History.{history}
 use Rattle.listen.specs.Listen.{firsts, contact_times, time_ok, in_order, times_ok}
 
 abbrev zero_time : Float

@@ -12,10 +12,10 @@ use Rattle.records.specs.Records.{Records, recs}
 use Rattle.shot.specs.declared.Shot.{Shot}
 use Rattle.tally.specs.Language.{contact_width, point_width}
 use Rattle.ground.specs.Settle.{Result, conditions_of, run_of, settle_of}
-use Rattle.promises.specs.Promises.{few_contacts as at_most}
+use Rattle.promises.proofs.Promises.{few_contacts as at_most}
 use Rattle.promises.specs.Table.{FirstAt, InOrder, AfterFirst, OnCourse, Rested}
-use Rattle.promises.specs.Walked.{IsRest, IsImpacts}
-use Rattle.promises.specs.Retold.{contacts_are, points_are, count_is, ended}
+use Rattle.promises.proofs.Walked.{IsRest, IsImpacts}
+use Rattle.promises.proofs.Retold.{contacts_are, points_are, count_is, ended}
 
 module _ (sheet : List ℕ) (shot : Shot) (cs ps : List Float) where
   -- what the call gives

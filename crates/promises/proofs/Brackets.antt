@@ -17,11 +17,11 @@ use Rattle.shot.specs.Tests.{physics_ok, landing_ok}
 use Rattle.ground.specs.Tests.{refusal_of}
 use Rattle.ground.specs.Passed.{settle_passes}
 use Rattle.ground.specs.Settle.{conditions_of, first_log}
-use Rattle.promises.specs.Finite.{landing_passes}
+use Rattle.promises.proofs.Finite.{landing_passes}
 use Rattle.promises.specs.Passes.{passes_of, Each}
 use Rattle.promises.specs.Bracketed.{Timed, HopBracket, GroundBracket, Bracketed}
-use Rattle.promises.specs.OnePass.{holds, accepted_paced, hop_pass, ground_pass}
-use Rattle.promises.specs.EachPass.{each_train}
+use Rattle.promises.proofs.OnePass.{holds, accepted_paced, hop_pass, ground_pass}
+use Rattle.promises.proofs.EachPass.{each_train}
 
 module _ (shot : Shot) where
   -- one pass of a hop, and one of the ground, from any state that passes test 22; a pass is due where it is not late, t_end being landing.time + max_time

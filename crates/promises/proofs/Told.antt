@@ -26,14 +26,14 @@ use Rattle.strike.specs.declared.Flown.{Flown}
 use Rattle.strike.specs.declared.Flown.TheVariants.{Hop, Ground}
 use Rattle.train.specs.Train.{last_impact, to_ground, train_from_by, train_from, train}
 use Rattle.promises.specs.Terms.{Ok, under, Placed}
-use Rattle.promises.specs.Finite.{state_finite}
+use Rattle.promises.proofs.Finite.{state_finite}
 use Rattle.promises.specs.Bracketed.{Timed, Later}
-use Rattle.promises.specs.OnePass.{Paced}
-use Rattle.promises.specs.EachPass.{impact_time, dropped_time}
-use Rattle.promises.specs.Parts.{state_of, impact_stays, drop_stays, same_under}
+use Rattle.promises.proofs.OnePass.{Paced}
+use Rattle.promises.proofs.EachPass.{impact_time, dropped_time}
+use Rattle.promises.proofs.Parts.{state_of, impact_stays, drop_stays, same_under}
 use Rattle.promises.specs.Table.{time_of, FirstAt, InOrder, AfterFirst, OnCourse, Rested}
 use Rattle.promises.specs.Ordered.{UpTo, up_ordered, up_later, up_more, Marked, marked, marked_more, IfAny, if_any, after_more}
-use Rattle.promises.specs.Walked.{Any, contacts_of, points_of, Of, Carries, w_look, w_test, IsRest, IsImpacts, Landed, Over, h_hop, g_time_up, g_ground}
+use Rattle.promises.proofs.Walked.{Any, contacts_of, points_of, Of, Carries, w_look, w_test, IsRest, IsImpacts, Landed, Over, h_hop, g_time_up, g_ground}
 
 self : (s : BallState) → Timed s → T (le s.time s.time)
 self s i = le_self s.time (state_finite s i.ok).time
