@@ -7,7 +7,8 @@ use Rattle.std.proofs.Math.Bool.{true, false}
 use mathlib.Core.List.{List, [], ◌∷◌, ◌++◌, Memᴰ}
 use Rattle.std.proofs.Math.Option.{Option, none, some}
 use Rattle.std.specs.Float.Ieee.{le}
-use Rattle.number.specs.Ops.{◌⊕◌, ◌⊖◌, ◌⊗◌, dec, if◌then◌else◌}
+use Rattle.number.specs.Ops.{◌⊕◌, ◌⊖◌, ◌⊗◌, dec}
+use Rattle.std.specs.Prelude.{if◌then◌else◌}
 use Rattle.state.specs.declared.BallState.{BallState}
 use Rattle.state.specs.declared.Termination.{Termination}
 use Rattle.state.specs.declared.Termination.TheVariants.{Nothing, Rest, MaxTime, MaxImpacts}

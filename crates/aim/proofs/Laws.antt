@@ -9,7 +9,7 @@ use mathlib.Core.Option.{Option, none, some}
 use lib.Ieee.{Float, of_bits, round}
 use lib.ListN.{length}
 use borrow.Author.Tests.{ne_eqb}
-use Rattle.number.specs.Ops.{if◌then◌else◌}
+use Rattle.std.specs.Prelude.{if◌then◌else◌}
 use Rattle.state.specs.declared.BallState.{BallState}
 use Rattle.shot.specs.declared.Shot.{Shot}
 use Rattle.records.specs.Records.{zeroed}

@@ -2,7 +2,8 @@
 use Rattle.std.specs.Prelude.{ℕ, zero, suc, ◌+◌, Bool, true, false, not, ◌&&◌, List, [], ◌∷◌, ◌++◌, leb, eqb, Float, length, replicate}
 use Rattle.std.proofs.Math.Option.{Option, none, some}
 use Rattle.std.specs.Float.Ieee.{le, neg}
-use Rattle.number.specs.Ops.{◌⊕◌, ◌⊖◌, ◌⊗◌, dec, if◌then◌else◌}
+use Rattle.number.specs.Ops.{◌⊕◌, ◌⊖◌, ◌⊗◌, dec}
+use Rattle.std.specs.Prelude.{if◌then◌else◌}
 use Rattle.number.specs.Number.{within_of, about_of}
 use Rattle.vector.specs.Vec.{vec}
 use Rattle.state.specs.declared.BallState.{BallState}

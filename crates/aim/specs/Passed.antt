@@ -6,7 +6,8 @@ use Rattle.std.proofs.Math.Bool.{true, false, not}
 use Rattle.std.proofs.Math.Dec.{eqb}
 use Rattle.std.specs.Float.Ieee.{le, eq, neg, round, of_int}
 use borrow.Author.Tests.{leb-true, eqb-true}
-use Rattle.number.specs.Ops.{dec, if◌then◌else◌}
+use Rattle.number.specs.Ops.{dec}
+use Rattle.std.specs.Prelude.{if◌then◌else◌}
 use Rattle.number.specs.Number.{within_of, about_of}
 use Rattle.vector.specs.Vec.{vec}
 use Rattle.state.specs.declared.BallState.{BallState}

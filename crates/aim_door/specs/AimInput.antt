@@ -1,6 +1,6 @@
 -- Definitions. `aim` over the input of the program settle, and what its door gives but for the result (include/dimple.h).
 use Rattle.std.specs.Prelude.{ℕ, ◌&&◌, List, leb, Float, length}
-use Rattle.number.specs.Ops.{if◌then◌else◌}
+use Rattle.std.specs.Prelude.{if◌then◌else◌}
 use Rattle.fields.specs.Fields.{state_fields, written}
 use Rattle.ground.specs.declared.Settled.{Settled}
 use Rattle.input.specs.Input.{sheet_at, shot_at}

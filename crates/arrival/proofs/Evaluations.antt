@@ -7,7 +7,8 @@ use Rattle.std.specs.Float.Ieee.{le, eq, of_int, binary64}
 use Rattle.number.specs.Ops.{◌⊗◌, ◌⊘◌, dec}
 use Rattle.vector.specs.declared.DVec3.{DVec3}
 use Rattle.search.specs.declared.Bracket.{Bracket}
-use Rattle.tally.specs.Language.{M, ◌>>=◌, pure, look, if◌then◌else◌}
+use Rattle.tally.specs.Language.{M, ◌>>=◌, pure, look}
+use Rattle.std.specs.Prelude.{if◌then◌else◌}
 use Rattle.tally.proofs.Triple.{t_after}
 use Rattle.arrival.specs.declared.Arc.{Arc}
 use Rattle.arrival.specs.Arrival.{arc_of, clearance_at, sub_step, crossing_from, first_crossing, end_value, crossing_time, hop_arrival}

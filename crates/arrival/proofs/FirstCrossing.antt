@@ -10,7 +10,8 @@ use Rattle.number.specs.Ops.{dec}
 use Rattle.number.specs.Order.{le_through}
 use Rattle.search.proofs.Evaluations.{Ends, largest, ends_from_0}
 use Rattle.search.specs.declared.Bracket.{Bracket}
-use Rattle.tally.specs.Language.{M, if◌then◌else◌}
+use Rattle.tally.specs.Language.{M}
+use Rattle.std.specs.Prelude.{if◌then◌else◌}
 use Rattle.arrival.specs.Arrival.{advanced, at_start, sub_step, crossing_from, first_crossing}
 use Rattle.arrival.specs.Eighths.{times_of, eighths_of, Eighths, eighths}
 use Rattle.arrival.specs.RootSearch.{Gives, gives_pure, gives_then, gives_bind}

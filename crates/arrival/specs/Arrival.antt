@@ -12,7 +12,8 @@ use Rattle.rk4.specs.declared.State.{State}
 use Rattle.flight.specs.Arc.{hermite_of, parabola_of, drop_time}
 use Rattle.search.specs.Search.{find_root}
 use Rattle.search.specs.declared.Bracket.{Bracket}
-use Rattle.tally.specs.Language.{M, ◌>>=◌, if◌then◌else◌, pure, look, evaluate, in_m}
+use Rattle.tally.specs.Language.{M, ◌>>=◌, pure, look, evaluate, in_m}
+use Rattle.std.specs.Prelude.{if◌then◌else◌}
 use Rattle.arrival.specs.declared.Arc.{Arc}
 
 -- ground.rs, fn hop, the closures passed as `arc`: the state tau into the step; with air the Hermite interpolant, without it the parabola

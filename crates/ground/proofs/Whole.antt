@@ -16,7 +16,8 @@ use Rattle.look.specs.declared.Rect.{Rect}
 use Rattle.course.specs.Sheet.{answer_of, course_of}
 use Rattle.records.specs.Records.{Clean, recs, shown, zeroed}
 use Rattle.records.proofs.Laws.{shows, clean_zeroed, zeroed_length, recs-length}
-use Rattle.tally.specs.Language.{Ran, ran, Log, Outcome, if◌then◌else◌, point_width, contact_width}
+use Rattle.tally.specs.Language.{Ran, ran, Log, Outcome, point_width, contact_width}
+use Rattle.std.specs.Prelude.{if◌then◌else◌}
 use Rattle.tally.specs.Inner.{place, log_at, Grown}
 use Rattle.shot.specs.declared.Shot.{Shot}
 use Rattle.tally.specs.declared.Conditions.{Conditions}

@@ -6,7 +6,8 @@ use Rattle.std.proofs.Math.Bool.{true, false}
 use Rattle.std.proofs.Math.Dec.{eqb, leb, leb→le}
 use Rattle.std.proofs.Common.{eqb-true}
 use Rattle.std.proofs.lemmas.Bool.{eqb-false}
-use Rattle.number.specs.Ops.{if◌then◌else◌, dec}
+use Rattle.number.specs.Ops.{dec}
+use Rattle.std.specs.Prelude.{if◌then◌else◌}
 use Rattle.number.specs.Number.{within_of}
 use Rattle.look.proofs.Within.{and_parts}
 use Rattle.shot.specs.Tests.{step_physics_ok, physics_ok, input_test}

@@ -9,7 +9,8 @@ use Rattle.look.specs.Tree.{Tree, Spot, Did, exec, looks}
 use Rattle.look.specs.declared.Rect.{Rect}
 use Rattle.course.specs.Sheet.{course_of}
 use Rattle.records.specs.Records.{shown}
-use Rattle.tally.specs.Language.{M, Log, Outcome, goes, stops, Ran, if◌then◌else◌, point_width, contact_width}
+use Rattle.tally.specs.Language.{M, Log, Outcome, goes, stops, Ran, point_width, contact_width}
+use Rattle.std.specs.Prelude.{if◌then◌else◌}
 use Rattle.shot.specs.declared.Shot.{Shot}
 use Rattle.tally.specs.declared.Conditions.{Conditions}
 use Rattle.roll.specs.declared.Ending.{Ending}

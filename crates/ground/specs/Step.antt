@@ -9,7 +9,8 @@ use Rattle.rolling.specs.ContactStep.{contact_step_of}
 use Rattle.look.specs.Rect.{no_rect}
 use Rattle.look.specs.Tree.{exec}
 use Rattle.course.specs.Sheet.{course_of}
-use Rattle.tally.specs.Language.{M, Outcome, goes, stops, ◌>>=◌, ◌>>◌, pure, if◌then◌else◌, look, test}
+use Rattle.tally.specs.Language.{M, Outcome, goes, stops, ◌>>=◌, ◌>>◌, pure, look, test}
+use Rattle.std.specs.Prelude.{if◌then◌else◌}
 use Rattle.roll.specs.Roll.{whole_phase}
 use Rattle.ground.specs.Tests.{step_test, impact_test}
 use Rattle.ground.specs.Settle.{first_log}

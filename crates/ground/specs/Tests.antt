@@ -1,6 +1,6 @@
 -- Definitions. The tests of a call (01, "Numbers for what was handed in"): 8, 1 to 3 of the sheet, 4 to 7 of the shot.
 use Rattle.std.specs.Prelude.{ℕ, ◌%◌, Bool, ◌&&◌, not, List, eqb, Float}
-use Rattle.number.specs.Ops.{if◌then◌else◌}
+use Rattle.std.specs.Prelude.{if◌then◌else◌}
 use Rattle.state.specs.declared.BallState.{BallState}
 use Rattle.aero.specs.declared.BallModel.{BallModel}
 use Rattle.shot.specs.Tests.{step_physics_ok, ball_ok, landing_ok, input_test}

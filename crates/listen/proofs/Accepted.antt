@@ -5,7 +5,7 @@ use Rattle.std.proofs.Math.Path.{◌≡◌, refl}
 use Rattle.std.proofs.Math.Bool.{true, false, not}
 use Rattle.std.proofs.Math.Dec.{leb}
 use borrow.Author.Tests.{leb-true}
-use Rattle.number.specs.Ops.{if◌then◌else◌}
+use Rattle.std.specs.Prelude.{if◌then◌else◌}
 use Rattle.listen.specs.Listen.{record_width, contact_times, times_ok, contacts_whole, all_times_ok, tolerance_ok, refusal_of}
 
 pub and_left : (a b : Bool) → a && b ≡ true → a ≡ true

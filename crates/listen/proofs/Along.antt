@@ -10,7 +10,7 @@ use mathlib.Core.List.{List, [], ◌∷◌}
 use lib.ListN.{length, drop, get_or, set, replicate, length-drop, length-set, drop_of_length-le}
 use lib.Seq.{sets, set_comm, drop-cons}
 use lib.Ieee.{Float, nan, lt}
-use Rattle.number.specs.Ops.{if◌then◌else◌}
+use Rattle.std.specs.Prelude.{if◌then◌else◌}
 use Rattle.listen.specs.Listen.{near, walk, heard_marks, contact_marks, count}
 use Rattle.listen.specs.Inner.{front_of, Walked}
 use Rattle.listen.proofs.Walking.{walking, heard_length}

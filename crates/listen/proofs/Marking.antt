@@ -4,7 +4,7 @@ use Rattle.std.proofs.Common.{arith, ap, subst, inl, inr}
 use mathlib.Core.List.{List, [], ◌∷◌, Memᴰ}
 use Rattle.std.specs.Float.{nan}
 use Rattle.std.specs.Float.Ieee.{lt}
-use Rattle.number.specs.Ops.{if◌then◌else◌}
+use Rattle.std.specs.Prelude.{if◌then◌else◌}
 use Rattle.listen.specs.Listen.{near, heard_marks, contact_marks, count}
 use Rattle.listen.proofs.Walking.{Walking, ended, computed_left, heard_left, pair, heard_first, computed_first}
 use Rattle.listen.specs.Turns.{Turn, turn, turns_from, places, Increasing}

@@ -2,7 +2,7 @@
 use Rattle.std.specs.Prelude.{ℕ, zero, suc, ◌+◌, ◌≡◌, refl, Bool, true, false, List, [], ◌∷◌, length, drop, Float}
 use Rattle.std.proofs.Common.{suc-add, add-suc, ap, ◌∙◌}
 use Rattle.std.specs.Float.Ieee.{lt}
-use Rattle.number.specs.Ops.{if◌then◌else◌}
+use Rattle.std.specs.Prelude.{if◌then◌else◌}
 use Rattle.listen.specs.Listen.{firsts, near, walk, heard_marks, contact_marks, count}
 use Rattle.listen.specs.declared.Mark.{Mark}
 use Rattle.listen.specs.declared.Mark.TheVariants.{Paired, HeardOnly, ComputedOnly}

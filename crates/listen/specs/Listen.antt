@@ -2,7 +2,8 @@
 use Rattle.std.specs.Prelude.{ℕ, zero, suc, ◌+◌, ◌*◌, ◌%◌, Bool, true, not, ◌&&◌, List, [], ◌∷◌, ◌++◌, leb, eqb, length, drop, get_or, Float}
 use Rattle.std.specs.Float.{nan}
 use Rattle.std.specs.Float.Ieee.{lt, le}
-use Rattle.number.specs.Ops.{◌⊖◌, dec, if◌then◌else◌}
+use Rattle.number.specs.Ops.{◌⊖◌, dec}
+use Rattle.std.specs.Prelude.{if◌then◌else◌}
 use Rattle.number.specs.Number.{abs_of, within_of}
 use Rattle.listen.specs.declared.Mark.{Mark}
 use Rattle.listen.specs.declared.Mark.TheVariants.{Paired, HeardOnly, ComputedOnly}

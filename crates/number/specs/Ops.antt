@@ -1,4 +1,4 @@
--- Definitions. The operations of f64, each rounded to the nearest double, decimal constants, and a choice by a Bool.
+-- Definitions. The operations of f64, each rounded to the nearest double, and decimal constants.
 use Rattle.std.specs.Prelude.{ℕ, Bool, true, false, Float}
 use Rattle.std.specs.Float.{binary64}
 use Rattle.std.specs.Float.Ieee.{round, add, sub, mul, div}
@@ -24,8 +24,3 @@ dec n d = round binary64 false n d
 -- std::f64::consts::PI: the decimal, rounded
 abbrev pub pi : Float
 pi = dec 314159265358979323846264338327950288 100000000000000000000000000000000000
-
-infix 5 if◌then◌else◌
-abbrev pub if◌then◌else◌ : {A : Type 0} → Bool → A → A → A
-if◌then◌else◌ true a b = a
-if◌then◌else◌ false a b = b

@@ -18,7 +18,8 @@ use Rattle.look.specs.Rect.{no_rect}
 use Rattle.look.specs.Tree.{Made, Tree, done, look as look_node, step, Oracle, Spot, did, exec, seen, bind}
 use Rattle.look.specs.Agree.{rect_from}
 use Rattle.look.proofs.Agree.{exec_is}
-use Rattle.tally.specs.Language.{M, Log, Outcome, goes, stops, Ran, onward, ◌>>=◌, if◌then◌else◌, pure, when, Pass, again, over, loop}
+use Rattle.tally.specs.Language.{M, Log, Outcome, goes, stops, Ran, onward, ◌>>=◌, pure, when, Pass, again, over, loop}
+use Rattle.std.specs.Prelude.{if◌then◌else◌}
 use Rattle.tally.specs.Language.{look, mark, truncate, push_point, steps_left}
 use Rattle.tally.specs.Times.{is_late}
 use Rattle.tally.proofs.Triple.{Past, past, fresh, After, Reached, reach, reaches, reach_is, t_any}

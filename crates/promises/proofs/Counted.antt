@@ -23,7 +23,8 @@ use Rattle.look.specs.Tree.{Made as Step, Oracle, run, bind, answer}
 use Rattle.course.specs.Sheet.{course_of}
 use Rattle.records.specs.Records.{Put, full, put, pushed}
 use Rattle.tally.specs.Times.{is_late}
-use Rattle.tally.specs.Language.{tested, point, contact, M, Log, Outcome, goes, stops, Ran, onward, ◌>>=◌, pure, stop_with, if◌then◌else◌, when, look, test}
+use Rattle.tally.specs.Language.{tested, point, contact, M, Log, Outcome, goes, stops, Ran, onward, ◌>>=◌, pure, stop_with, when, look, test}
+use Rattle.std.specs.Prelude.{if◌then◌else◌}
 use Rattle.tally.specs.Language.{count_evaluation, evaluate, seen_at, point_of, contact_of, put_point, push_point, push_contact, mark, truncate, make_step}
 use Rattle.tally.specs.Language.{steps_left, in_m, loop, Pass, again, over}
 use Rattle.tally.specs.declared.Conditions.{Conditions}

@@ -23,7 +23,8 @@ use Rattle.rolling.specs.Times.{contact_step_onward}
 use Rattle.contact.specs.Contact.{onto_of}
 use Rattle.look.specs.Tree.{Made}
 use Rattle.tally.specs.Times.{time_eps, is_late}
-use Rattle.tally.specs.Language.{M, onward, ◌>>=◌, if◌then◌else◌, when, look, test, push_point, make_step, Pass, again, over}
+use Rattle.tally.specs.Language.{M, onward, ◌>>=◌, when, look, test, push_point, make_step, Pass, again, over}
+use Rattle.std.specs.Prelude.{if◌then◌else◌}
 use Rattle.tally.specs.declared.Conditions.{Conditions}
 use Rattle.arrival.specs.declared.Arc.{Arc}
 use Rattle.arrival.specs.Arrival.{clearance, hop_arrival}

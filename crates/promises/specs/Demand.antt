@@ -15,7 +15,7 @@ use Rattle.look.specs.Tree.{Spot, exec}
 use Rattle.look.proofs.Within.{Within, AgreeIn, Inside, agree_within, rect_of_looks, holds_every_look, least_rectangle, no_look_zero}
 use Rattle.look.specs.declared.Rect.{Rect}
 use Rattle.course.specs.Sheet.{Accepted, answer_of, course_of}
-use Rattle.tally.specs.Language.{if◌then◌else◌}
+use Rattle.std.specs.Prelude.{if◌then◌else◌}
 use Rattle.shot.specs.Tests.{input_test}
 use Rattle.shot.specs.Passed.{input_number}
 use Rattle.shot.specs.declared.Shot.{Shot}

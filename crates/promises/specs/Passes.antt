@@ -8,7 +8,8 @@ use Rattle.surface.specs.declared.GroundSample.{GroundSample}
 use Rattle.look.specs.Tree.{Oracle, run}
 use Rattle.course.specs.Sheet.{course_of}
 use Rattle.tally.specs.Times.{sample_interval, is_late}
-use Rattle.tally.specs.Language.{M, Log, Outcome, goes, stops, if◌then◌else◌, mark, push_point, push_contact, Pass, again, over}
+use Rattle.tally.specs.Language.{M, Log, Outcome, goes, stops, mark, push_point, push_contact, Pass, again, over}
+use Rattle.std.specs.Prelude.{if◌then◌else◌}
 use Rattle.tally.specs.declared.Conditions.{Conditions}
 use Rattle.shot.specs.declared.Shot.{Shot}
 use Rattle.hop.specs.Hop.{Air, air_of, flight, hop_step}

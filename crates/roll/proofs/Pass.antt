@@ -10,7 +10,8 @@ use Rattle.surface.specs.declared.GroundSample.{GroundSample}
 use Rattle.rolling.specs.declared.Stepped.{Stepped}
 use Rattle.look.specs.Tree.{Oracle}
 use Rattle.tally.specs.Times.{next_after}
-use Rattle.tally.specs.Language.{M, Pass, again, over, ◌>>=◌, ◌>>◌, pure, if◌then◌else◌, when, look, test, push_point}
+use Rattle.tally.specs.Language.{M, Pass, again, over, ◌>>=◌, ◌>>◌, pure, when, look, test, push_point}
+use Rattle.std.specs.Prelude.{if◌then◌else◌}
 use Rattle.tally.specs.Inner.{place, Reached, MakesStep}
 use Rattle.tally.specs.declared.Conditions.{Conditions}
 use Rattle.tally.specs.declared.Tally.{Tally}

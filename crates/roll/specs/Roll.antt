@@ -14,7 +14,8 @@ use Rattle.state.specs.declared.Phase.TheVariants.{Hop, Slide, Roll as InRoll}
 use Rattle.rolling.specs.declared.Stepped.{Stepped}
 use Rattle.look.specs.Tree.{Made}
 use Rattle.tally.specs.Times.{is_due, next_after}
-use Rattle.tally.specs.Language.{M, ◌>>=◌, ◌>>◌, pure, if◌then◌else◌, when, make_step, look, test, push_point, Pass, again, over}
+use Rattle.tally.specs.Language.{M, ◌>>=◌, ◌>>◌, pure, when, make_step, look, test, push_point, Pass, again, over}
+use Rattle.std.specs.Prelude.{if◌then◌else◌}
 use Rattle.tally.specs.declared.Conditions.{Conditions}
 use Rattle.roll.specs.declared.Roll.{Roll}
 use Rattle.roll.specs.declared.LastPhase.{LastPhase}

@@ -1,7 +1,7 @@
 -- Lemmas. The numbers of a shot that is turned back, and what one that is not has passed.
 use Rattle.std.specs.Prelude.{ℕ, ◌≤◌, ◌≡◌, refl, Bool, true, false, not}
 use Rattle.std.proofs.Common.{arith}
-use Rattle.number.specs.Ops.{if◌then◌else◌}
+use Rattle.std.specs.Prelude.{if◌then◌else◌}
 use Rattle.shot.specs.Tests.{physics_ok, ball_ok, density_ok, landing_ok, input_test}
 use Rattle.shot.specs.declared.Shot.{Shot}
 

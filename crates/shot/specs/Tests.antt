@@ -1,6 +1,7 @@
 -- Definitions. The tests 4 to 7 of a shot (01, "Numbers for what was handed in"). A range is by value: NaN fails it, −0 counts as 0.
 use Rattle.std.specs.Prelude.{ℕ, Bool, ◌&&◌, not, leb, Float}
-use Rattle.number.specs.Ops.{dec, if◌then◌else◌}
+use Rattle.number.specs.Ops.{dec}
+use Rattle.std.specs.Prelude.{if◌then◌else◌}
 use Rattle.number.specs.Number.{within_of, about_of}
 use Rattle.vector.specs.declared.DVec3.{DVec3}
 use Rattle.state.specs.declared.BallState.{BallState}

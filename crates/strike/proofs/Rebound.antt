@@ -7,7 +7,8 @@ use lib.Ieee.{Float}
 use Rattle.state.specs.declared.BallState.{BallState}
 use Rattle.state.specs.declared.Phase.TheVariants.{Hop as InHop}
 use Rattle.look.specs.Tree.{Oracle}
-use Rattle.tally.specs.Language.{M, ◌>>=◌, ◌>>◌, pure, if◌then◌else◌, push_point, truncate}
+use Rattle.tally.specs.Language.{M, ◌>>=◌, ◌>>◌, pure, push_point, truncate}
+use Rattle.std.specs.Prelude.{if◌then◌else◌}
 use Rattle.tally.specs.Inner.{Place, Reached}
 use Rattle.tally.specs.declared.Conditions.{Conditions}
 use Rattle.tally.proofs.Reached.{begun, marked, if_taken, if_left}

@@ -10,7 +10,8 @@ use Rattle.aero.specs.Aero.{g_of, radius_of}
 use Rattle.impact.specs.Impact.{impact_of}
 use Rattle.contact.specs.Contact.{slip_of, locked_of, hops_die_out}
 use Rattle.state.specs.declared.Phase.TheVariants.{Hop as InHop}
-use Rattle.tally.specs.Language.{M, ◌>>=◌, ◌>>◌, pure, if◌then◌else◌, look, test, push_point, push_contact, mark, truncate}
+use Rattle.tally.specs.Language.{M, ◌>>=◌, ◌>>◌, pure, look, test, push_point, push_contact, mark, truncate}
+use Rattle.std.specs.Prelude.{if◌then◌else◌}
 use Rattle.tally.specs.declared.Conditions.{Conditions}
 use Rattle.hop.specs.Hop.{hop}
 use Rattle.hop.specs.declared.Way.{Way}

@@ -11,7 +11,8 @@ use Rattle.look.specs.Rect.{spot_ok}
 use Rattle.look.specs.Tree.{Made, Oracle, exec, Did, did, done, bind, answer, widen_where}
 use Rattle.records.specs.Records.{recs, null, pushed, pick, put, full, Clean}
 use Rattle.records.proofs.Laws.{recs-length, recs_zeroed, clean_zeroed, zeroed_length}
-use Rattle.tally.specs.Language.{M, Outcome, goes, stops, Ran, ran, stop_with, ◌>>=◌, if◌then◌else◌, when, seen_at, contact, point_width}
+use Rattle.tally.specs.Language.{M, Outcome, goes, stops, Ran, ran, stop_with, ◌>>=◌, when, seen_at, contact, point_width}
+use Rattle.std.specs.Prelude.{if◌then◌else◌}
 use Rattle.tally.specs.Language.{contact_width, contact_of, make_step, look, test, put_point, push_point, push_contact, mark, truncate}
 use Rattle.tally.specs.Inner.{Place, place, log_at, RunsBy, Runs, RunsOn, Reached, MakesStep, LooksAt, Tests, PushesPoint, PushesIf, PushesContact}
 use Rattle.tally.specs.Inner.{Truncates}

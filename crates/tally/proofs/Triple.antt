@@ -12,7 +12,8 @@ use Rattle.look.specs.Tree.{Made, Tree, done, look as look_node, step, Oracle, S
 use Rattle.look.proofs.Resume.{made as made_by}
 use Rattle.records.specs.Records.{Records, pushed}
 use Rattle.state.specs.State.{state_ok}
-use Rattle.tally.specs.Language.{M, Lent, Log, Outcome, goes, stops, Ran, onward, ◌>>=◌, if◌then◌else◌, point_of, contact_of}
+use Rattle.tally.specs.Language.{M, Lent, Log, Outcome, goes, stops, Ran, onward, ◌>>=◌, point_of, contact_of}
+use Rattle.std.specs.Prelude.{if◌then◌else◌}
 use Rattle.tally.specs.Language.{stepped, evaluated, count_evaluation, tested, with_points, with_contacts, seen_at, point, contact, Pass, again, over}
 use Rattle.tally.specs.Language.{pure, stop_with, when, look, test, put_point, push_point, push_contact, mark, truncate, make_step, steps_left, loop}
 use Rattle.tally.specs.declared.Conditions.{Conditions}

@@ -14,7 +14,8 @@ use Rattle.look.specs.declared.Look.TheVariants.{Off, Saw}
 use Rattle.records.specs.Records.{Pushes}
 use Rattle.records.specs.declared.Pushed.{Pushed}
 use Rattle.records.specs.declared.Pushed.TheVariants.{Full, Done}
-use Rattle.tally.specs.Language.{M, Outcome, goes, stops, ran, if◌then◌else◌, when, point_width, contact_width, point_of, contact_of, seen_at, look}
+use Rattle.tally.specs.Language.{M, Outcome, goes, stops, ran, when, point_width, contact_width, point_of, contact_of, seen_at, look}
+use Rattle.std.specs.Prelude.{if◌then◌else◌}
 use Rattle.tally.specs.Language.{test, put_point, push_point, push_contact}
 use Rattle.tally.specs.Inner.{place, RunsBy, Runs, Looks, Searches, PushesIf, with_rect, with_search, with_contacts, with_points}
 use Rattle.tally.specs.Lists.{stay, pushed_grown, full_grown}

@@ -14,7 +14,7 @@ use Rattle.look.specs.declared.Look.{Look}
 use Rattle.look.specs.declared.Look.TheVariants.{Off, Saw}
 use Rattle.records.specs.Records.{Records, Put, full, put, pushed}
 use Rattle.tally.specs.declared.Conditions.{Conditions}
-pub use Rattle.number.specs.Ops.{if◌then◌else◌}
+use Rattle.std.specs.Prelude.{if◌then◌else◌}
 
 -- ---- the log
 
@@ -177,8 +177,8 @@ put_point s p height l = point (pushed l.points.room l.points.records (point_of 
 -- push of a point, its look first. 02, paper 12: "That look counts in the rectangle, and its spot is tested as any look is, before the push"
 unfoldable pub push_point : BallState → Phase → M Unit
 push_point s p = do
-  ground ← look s.pos.x s.pos.z
-  put_point s p ground.height
+  under ← look s.pos.x s.pos.z
+  put_point s p under.height
 
 -- push of a contact: the state that arrives, the sample, the state that leaves
 unfoldable pub push_contact : BallState → GroundSample → BallState → M Unit

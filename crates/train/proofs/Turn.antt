@@ -10,7 +10,8 @@ use borrow.Author.Tests.{leb-true, leb-false}
 use Rattle.state.specs.declared.BallState.{BallState}
 use Rattle.state.specs.declared.Phase.TheVariants.{Hop as InHop}
 use Rattle.look.specs.Tree.{bind, Oracle, exec}
-use Rattle.tally.specs.Language.{M, contact_width, stops, ◌>>=◌, ◌>>◌, if◌then◌else◌, push_contact}
+use Rattle.tally.specs.Language.{M, contact_width, stops, ◌>>=◌, ◌>>◌, push_contact}
+use Rattle.std.specs.Prelude.{if◌then◌else◌}
 use Rattle.tally.specs.Inner.{Place, place, log_at, first_tally, RunsOn, Reached}
 use Rattle.tally.specs.declared.Conditions.{Conditions}
 use Rattle.tally.specs.declared.Tally.{Tally}

@@ -2,7 +2,8 @@
 use Rattle.std.specs.Prelude.{ℕ, zero, suc, ◌-◌, not}
 use Rattle.state.specs.declared.BallState.{BallState}
 use Rattle.state.specs.declared.Phase.TheVariants.{Hop as InHop}
-use Rattle.tally.specs.Language.{M, ◌>>=◌, ◌>>◌, pure, if◌then◌else◌, push_point, push_contact}
+use Rattle.tally.specs.Language.{M, ◌>>=◌, ◌>>◌, pure, push_point, push_contact}
+use Rattle.std.specs.Prelude.{if◌then◌else◌}
 use Rattle.tally.specs.declared.Conditions.{Conditions}
 use Rattle.hop.specs.Hop.{hop}
 use Rattle.hop.specs.declared.Way.{Way}
