@@ -4,7 +4,7 @@ pub mod Finite
 pub mod OnePass
 pub mod EachPass
 pub mod Alike
-pub mod Brackets
+pub mod Bracketing
 pub mod Counted
 pub mod Entered
 pub mod Heard
