@@ -47,8 +47,16 @@ fn next_entry(file: &mut File) -> io::Result<Replayed> {
     replay_next(file, &mut space[..n])
 }
 
+fn print_differs(rt: &HostRuntime, number: u64) -> io::Result<()> {
+    println!(rt; "entry {number} differs")
+}
+
 fn print_damaged(rt: &HostRuntime, number: u64) -> io::Result<()> {
     println!(rt; "the file is damaged at entry {number}")
+}
+
+fn print_counts(rt: &HostRuntime, replayed: u64, differ: u64) -> io::Result<()> {
+    println!(rt; "{replayed} replayed, {differ} differ")
 }
 
 // One more entry that differs: of the first ten the number is printed.
@@ -57,7 +65,7 @@ fn one_more(rt: &HostRuntime, number: u64, differ: u64) -> io::Result<u64>
     ensures { IfOk result (λ n. n ≡ differ + 1) }
 {
     if differ < 10 {
-        println!(rt; "entry {number} differs")?;
+        print_differs(rt, number)?;
     }
     Ok(differ + 1)
 }
@@ -81,7 +89,7 @@ fn replay_all(rt: &HostRuntime, file: &mut File, count: u64) -> io::Result<()> {
     if read_full(file, &mut more)? != 0 {
         return print_damaged(rt, number);
     }
-    println!(rt; "{number} replayed, {differ} differ")
+    print_counts(rt, number, differ)
 }
 
 fn main(rt: HostRuntime) -> io::Result<()> {
