@@ -6,7 +6,7 @@ use mathlib.Core.Bool.{false}
 use mathlib.Core.List.{List, [], ◌∷◌, ◌++◌}
 use lib.Dec.{T, not_T}
 use lib.ListN.{replicate}
-use lib.Ieee.{Float, binary64, round, neg, le, of_bits, to_bits}
+use lib.Ieee.{Float, round, neg, le, of_bits, to_bits}
 use lib.Ieee.Bits.{is_false}
 use Rattle.number.specs.Ops.{dec}
 use Rattle.number.specs.Number.{within_of}

@@ -1,6 +1,6 @@
 -- Demand 3 (promises, specs/Demand.antt) asks agreement at doubles only: one patch, and the same ground as two patches, which meet between 1 and the next
 -- double. No double lies between them, so a shot that crosses x = 1 settles alike on both sheets. Assumes nothing.
-use Prim.Native.Nat.{ℕ, zero, suc, ◌+◌, ◌*◌, ◌%◌, ◌^◌, ◌≤◌, ◌<◌}
+use Prim.Native.Nat.{ℕ, zero, suc, ◌*◌, ◌%◌, ◌^◌, ◌≤◌, ◌<◌}
 use native.Mathlib.Nat.{pow-le-pow_right}
 use native.Mathlib.Omega.{arith}
 use mathlib.Core.Path.{◌≡◌, refl}
@@ -10,7 +10,7 @@ use mathlib.Core.List.{List, [], ◌∷◌, ◌++◌, map}
 use lib.Dec.{T, leb, ltb, eqb, leb→le, nleb→lt, ltb→lt, not_T}
 use lib.IntN.{ℤ, pos, negsuc}
 use lib.ListN.{replicate}
-use lib.Ieee.{Float, nan, inf, fin, binary64, up, down, fits, lt, le, eq, neg, round, of_bits, to_bits}
+use lib.Ieee.{Float, nan, inf, fin, down, fits, lt, le, eq, neg, round, of_bits, to_bits}
 use lib.Ieee.Bits.{is_true, is_false}
 use Rattle.number.specs.Ops.{dec}
 use Rattle.number.specs.Number.{within_of}
@@ -24,7 +24,6 @@ use Rattle.look.specs.Tree.{Spot}
 use Rattle.look.proofs.Within.{and_parts}
 use Rattle.octets.specs.Octets.{little}
 use Rattle.course.specs.Sheet.{Accepted, first, covers, restitution_of, law_of, surface_of, patch_sample, plain_sample, course_of}
-use Rattle.shot.specs.Physics.{physics_new}
 use Rattle.shot.specs.declared.GroundPhysics.{GroundPhysics}
 use Rattle.shot.specs.declared.Shot.{Shot}
 use Rattle.ground.specs.Settle.{settle_of, looks_of}

@@ -1,6 +1,6 @@
 -- Statements. The first two hop steps of a short shot in air by both settles: the spin of the last state that passed, held by the first and faded by the second
 -- (02, paper 13). Computed from the definition; the numbers are those of the model in compare/.
-use Rattle.std.specs.Prelude.{ℕ, ◌*◌, ◌≡◌, refl, Bool, true, false, replicate, Float}
+use Rattle.std.specs.Prelude.{ℕ, ◌*◌, ◌≡◌, refl, Bool, true, false, replicate}
 use Rattle.std.specs.Float.{binary64}
 use Rattle.std.specs.Float.Ieee.{of_bits}
 use Rattle.number.specs.Ops.{dec}
@@ -9,7 +9,7 @@ use Rattle.vector.specs.declared.DVec3.{DVec3}
 use Rattle.aero.specs.Aero.{tour}
 use Rattle.tally.specs.Language.{contact_width, point_width}
 use Rattle.shot.specs.declared.Shot.{Shot}
-use Rattle.ground.specs.Settle.{Result, settle_of}
+use Rattle.ground.specs.Settle.{settle_of}
 use Rattle.bench.specs.Definitions.{definitions}
 use Rattle.bench.specs.Given.{sheet_of}
 use Rattle.bench.specs.Looks.{physics, surface, landing}

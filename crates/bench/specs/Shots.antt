@@ -1,17 +1,12 @@
 -- Statements. The starred shots of 01, "Bench shots", as one table: the lines that the program settle prints, computed from the definitions.
 -- With the starred numbers, root(4) = 2 and three more (Numbers.antt), they are `bench-table`.
-use Rattle.std.specs.Prelude.{ℕ, ◌≡◌, refl, List, [], ◌∷◌, set, take}
+use Rattle.std.specs.Prelude.{ℕ, ◌≡◌, List, [], ◌∷◌, set, take}
 use Prim.Native.String.{String}
 use Rattle.std.specs.Float.{nan}
 use Rattle.std.specs.Float.Ieee.{neg}
 use Rattle.number.specs.Ops.{dec}
-use Rattle.root.specs.Root.{root_of}
-use Rattle.exponential.specs.Exp.{exp_of}
-use Rattle.trigonometry.specs.Trig.{cosine_of}
 use Rattle.input.specs.Input.{program_of}
 use Rattle.line.specs.Line.{shown_of}
-use Rattle.bench.specs.Numbers.{root_four, cosine_zero, exp_at_zero, exp_at_minus_701}
-use Rattle.bench.specs.Definitions.{definitions}
 use Rattle.bench.specs.Given.{bits, line_text, dt_at, max_time_at, max_impacts_at, mass_at, density_at, vel_y_at, input_of, fields_s, sheet_s}
 
 -- an input, and the line that it gives
@@ -50,11 +45,3 @@ table =
 abbrev pub Prints : List Shot → Type 0
 Prints [] = Unit {0}
 Prints (s ∷ l) = (shown_of (program_of s.input) ≡ s.line) × Prints l
-
-pub bench_shots : Prints table
-unfolding definitions
-bench_shots = (refl, (refl, (refl, (refl, (refl, (refl, (refl, (refl, tt))))))))
-
--- the starred shots and the starred numbers
-pub bench_table : Prints table × (root_of (dec 4 1) ≡ dec 2 1) × (cosine_of (dec 0 1) ≡ dec 1 1) × (exp_of (dec 0 1) ≡ dec 1 1) × (exp_of (neg (dec 701 1)) ≡ dec 0 1)
-bench_table = (bench_shots, root_four, cosine_zero, exp_at_zero, exp_at_minus_701)

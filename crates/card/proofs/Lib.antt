@@ -1,2 +1,3 @@
 mod Written
 mod Made
+pub mod Demand

@@ -1,8 +1,8 @@
 -- What the parts of a line give, over plain values. Assumes nothing.
-use Prim.Native.Nat.{ℕ, suc, ◌+◌, ◌-◌, ◌*◌, ◌≤◌, ◌<◌}
+use Prim.Native.Nat.{ℕ, ◌+◌, ◌-◌, ◌*◌, ◌≤◌}
 use native.Mathlib.Omega.{arith}
 use native.Mathlib.Numerals.{add-one}
-use mathlib.Core.Path.{◌≡◌, refl, ap, ◌∙◌, sym, subst}
+use mathlib.Core.Path.{◌≡◌, refl, ◌∙◌, sym, subst}
 use mathlib.Core.Bool.{◌&&◌, false}
 use mathlib.Core.List.{List, ◌++◌}
 use lib.Dec.{ltb}
@@ -12,7 +12,7 @@ use Rattle.number.specs.Ops.{dec}
 use Rattle.state.specs.declared.Termination.{Termination}
 use Rattle.fields.specs.Fields.{double_at}
 use Rattle.rounding.specs.Rounded.{rounded_of}
-use Rattle.text.specs.Text.{Adds, Puts, Fills, blanks, decimal_of, signed_of, right_of, word_of}
+use Rattle.text.specs.Text.{Adds, Puts, Fills, blanks, signed_of, right_of, word_of}
 use Rattle.text.specs.Laws.{then, fills}
 use Rattle.card.specs.Card.{value_of, place_at, line_end, heading_line, contact_at, lines_of}
 

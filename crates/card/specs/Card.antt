@@ -50,7 +50,7 @@ text_of w = heading_line w.settled.termination ++ lines_of w.contacts w.settled.
 
 -- ---- the call
 
--- "30 when the lent page is too short for all lines .. lists and the rest of the result_of are the run's"
+-- "30 when the lent page is too short for all lines .. lists and the rest of the result are the run's"
 abbrev pub too_short : Settled → Settled
 too_short s = record {
   answer = 30;
@@ -63,7 +63,7 @@ too_short s = record {
   rect = s.rect;
 }
 
--- all that a call gives: the result_of, both lists, the page
+-- all that a call gives: the result, both lists, the page
 pub record Carded : Type 0 where
   pub run : Result
   pub page : List ℕ

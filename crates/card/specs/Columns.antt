@@ -1,6 +1,6 @@
 -- Statements. Every value of magnitude at most 1,000,000 fits its column, and every line is 60 bytes long.
-use Rattle.std.specs.Prelude.{ℕ, zero, suc, ◌+◌, ◌-◌, ◌*◌, ◌^◌, ◌≤◌, ◌<◌, ◌≡◌, refl, Bool, true, false, ◌&&◌, cond, List, [], ◌∷◌, ◌++◌, T, ltb, length, Float}
-use Rattle.std.proofs.Common.{arith, ap, ◌∙◌, length-append}
+use Rattle.std.specs.Prelude.{ℕ, zero, suc, ◌+◌, ◌-◌, ◌*◌, ◌^◌, ◌≤◌, ◌<◌, ◌≡◌, refl, Bool, true, false, ◌&&◌, List, T, ltb, length, Float}
+use Rattle.std.proofs.Common.{arith, length-append}
 use Rattle.std.proofs.lemmas.List.{length-replicate}
 use Rattle.std.specs.Float.Ieee.{lt}
 use Rattle.tally.specs.Language.{contact_width}

@@ -2,7 +2,7 @@
 -- (crate promises), so that no text is wider than its column.
 use Prim.Native.Nat.{ℕ, zero, suc, ◌+◌, ◌*◌, ◌≤◌, ◌<◌}
 use Rattle.std.proofs.Common.{arith, zero-add, ap, ◌∙◌, sym, get_or-append-add}
-use Rattle.std.specs.Prelude.{◌≡◌, Bool, ◌&&◌, T, Float, drop}
+use Rattle.std.specs.Prelude.{◌≡◌, Bool, ◌&&◌, T, Float}
 use Rattle.std.proofs.Math.Path.{refl, subst}
 use Rattle.std.proofs.Math.Bool.{true, false}
 use mathlib.Core.List.{List, [], ◌∷◌, ◌++◌, append_assoc}
@@ -25,7 +25,7 @@ use Rattle.promises.proofs.Promises.{answered, most_contacts}
 use Rattle.fields.specs.Fields.{double_at}
 use Rattle.input.specs.Input.{shot_at, sheet_at, settle_input_by, settle_input_of}
 use Rattle.card.specs.Card.{heading_line, contact_at, lines_of, text_of}
-use Rattle.card.specs.Inner.{Place, Spot, Printable}
+use Rattle.card.specs.Inner.{Spot, Printable}
 use Rattle.card.specs.Columns.{Fit, spot_fits, heading_60, line_60, lines_60}
 
 -- ---- a record in a list of records as wide as a contact

@@ -3,4 +3,3 @@ pub mod Inner
 pub mod Columns
 pub mod Reading
 pub mod Fits
-pub mod Demand

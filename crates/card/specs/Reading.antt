@@ -1,5 +1,5 @@
 -- Statements. What a column prints is read back as the rounded value: its sign and its digits in base ten.
-use Rattle.std.specs.Prelude.{ℕ, zero, suc, ◌+◌, ◌-◌, ◌*◌, ◌≤◌, ◌<◌, ◌≡◌, refl, Bool, true, false, ◌&&◌, cond, List, [], ◌∷◌, ◌++◌, T, eqb, ltb, Float, length, get_or}
+use Rattle.std.specs.Prelude.{ℕ, zero, suc, ◌-◌, ◌≤◌, ◌<◌, ◌≡◌, refl, Bool, true, false, ◌&&◌, cond, List, [], ◌∷◌, ◌++◌, T, eqb, ltb, Float, length, get_or}
 use Rattle.std.proofs.Common.{arith, ap, ◌∙◌, ne_eqb}
 use Rattle.std.specs.Float.Ieee.{lt}
 use Rattle.number.specs.Ops.{dec}

@@ -65,7 +65,7 @@ fn put_heading(page: &mut [u8], t: Termination) -> usize
     text::put(page, j, b"\n")
 }
 
-// The run's result_of with the number 30 in place of its own.
+// The run's result with the number 30 in place of its own.
 fn page_too_short(s: Settled) -> Settled
     ensures { result ≡ too_short s }
 {

@@ -1,13 +1,8 @@
--- Lemmas. Of Tree's definitions.
-use Rattle.std.specs.Prelude.{ℕ, ◌≡◌, refl, List, [], ◌∷◌, ◌++◌, Bool, true, false, Float}
+-- Lemmas. The laws of the look tree that a caller's proof goes by.
+use Rattle.std.specs.Prelude.{◌≡◌, refl, List, ◌++◌, Bool, true, false}
 use Rattle.std.proofs.Common.{◌∙◌}
 use Rattle.look.specs.declared.Rect.{Rect}
-use Rattle.state.specs.declared.BallState.{BallState}
-use Rattle.state.specs.declared.Phase.{Phase}
-use Rattle.surface.specs.declared.GroundSample.{GroundSample}
-use Rattle.look.specs.declared.Look.{Look}
-use Rattle.look.specs.declared.Look.TheVariants.{Off, Saw}
-use Rattle.look.specs.Rect.{widen, spot_ok}
+use Rattle.look.specs.Rect.{spot_ok}
 use Rattle.look.specs.Tree.{done, look, step, Tree, Oracle, seen, note, bind, run, looks, Did, did, widen_where, exec}
 
 pub run_bind : {A B : Type 0} (o : Oracle) (t : Tree A) (k : A → Tree B) → run o (bind t k) ≡ run o (k (run o t))

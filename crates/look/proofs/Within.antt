@@ -10,7 +10,7 @@ use Rattle.state.specs.State.{coord_ok}
 use Rattle.look.specs.Rect.{widen, widen_if, lesser, greater, is_double, spot_ok, no_rect}
 use Rattle.number.specs.Number.{within_of, finite_of}
 use Rattle.number.specs.Order.{le_through, le_self, lt-le, nlt-le}
-use Rattle.look.specs.Tree.{Tree, done, look, step, Oracle, Spot, run, looks, exec, seen, note}
+use Rattle.look.specs.Tree.{Tree, done, look, step, Oracle, Spot, looks, exec, seen, note}
 use Rattle.look.specs.Agree.{All, AgreeOn, rect_from}
 use Rattle.look.proofs.Agree.{same_run, exec_is}
 

@@ -1,9 +1,8 @@
--- Statements. A run depends on a course only at the spots that it looks at, and its rectangle is the one reckoned from those spots.
-use Rattle.std.specs.Prelude.{◌≡◌, refl, List, [], ◌∷◌, Bool, true, false}
-use Rattle.std.proofs.Common.{ap}
+-- Definitions. What it says that two courses agree at a list of spots, and the rectangle reckoned from such a list.
+use Rattle.std.specs.Prelude.{◌≡◌, List, [], ◌∷◌}
 use Rattle.look.specs.declared.Rect.{Rect}
-use Rattle.look.specs.Rect.{widen, spot_ok}
-use Rattle.look.specs.Tree.{Tree, done, look, step, Oracle, Spot, run, looks, exec, did, seen, answer, note, widen_where}
+use Rattle.look.specs.Rect.{widen}
+use Rattle.look.specs.Tree.{Oracle, Spot}
 
 -- P of each spot of a list
 abbrev pub All : (Spot → Type 0) → List Spot → Type 0

@@ -1,7 +1,5 @@
--- Definitions. The look tree: a definition that may look at a course, as its looks, its steps and its answer. Definitions, and the laws that a
--- caller's proof goes by.
-use Rattle.std.specs.Prelude.{ℕ, ◌≡◌, refl, List, [], ◌∷◌, ◌++◌, Bool, true, false, Float}
-use Rattle.std.proofs.Common.{◌∙◌}
+-- Definitions. The look tree: a definition that may look at a course, as its looks, its steps and its answer.
+use Rattle.std.specs.Prelude.{ℕ, List, [], ◌∷◌, Bool, true, false, Float}
 use Rattle.look.specs.declared.Rect.{Rect}
 use Rattle.state.specs.declared.BallState.{BallState}
 use Rattle.state.specs.declared.Phase.{Phase}

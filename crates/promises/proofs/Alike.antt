@@ -22,7 +22,7 @@ use Rattle.tally.specs.Language.{M, Log, Outcome, goes, stops, Ran, onward, ◌>
 use Rattle.std.specs.Prelude.{if◌then◌else◌}
 use Rattle.tally.specs.Language.{look, mark, truncate, push_point, steps_left}
 use Rattle.tally.specs.Times.{is_late}
-use Rattle.tally.proofs.Triple.{Past, past, fresh, After, Reached, reach, reaches, reach_is, t_any}
+use Rattle.tally.proofs.Triple.{Past, fresh, After, Reached, reach, reaches, reach_is, t_any}
 use Rattle.tally.specs.declared.Conditions.{Conditions}
 use Rattle.arrival.specs.Arrival.{clearance, clearance_at, first_crossing, crossing_time, placed, hop_arrival}
 use Rattle.arrival.proofs.FirstCrossing.{IfSome}

@@ -1,30 +1,26 @@
 -- Statements. What 01 promises of `step`, `impact` and `height`, of every call: which answers each can give, and what comes with each. Assumes nothing.
-use Rattle.std.specs.Prelude.{ℕ, ◌≡◌, ◌⊎◌, Bool, ◌||◌, cond, List, [], ◌∷◌, T, eqb, Float}
+use Rattle.std.specs.Prelude.{ℕ, ◌≡◌, Bool, List, Float}
 use Rattle.std.proofs.Math.Path.{refl}
-use Rattle.std.proofs.Common.{ap, inr}
+use Rattle.std.proofs.Common.{inr}
 use Rattle.std.proofs.Math.Logic.{inl}
 use Rattle.std.proofs.Math.Bool.{true, false}
-use Rattle.number.specs.Ops.{dec}
-use Rattle.number.specs.Number.{finite_of}
 use Rattle.state.specs.declared.BallState.{BallState}
 use Rattle.state.specs.State.{state_ok}
 use Rattle.aero.specs.declared.BallModel.{BallModel}
 use Rattle.look.specs.Rect.{no_rect, spot_ok}
-use Rattle.look.specs.Tree.{Oracle, Tree, Did, run, exec}
+use Rattle.look.specs.Tree.{Oracle, run, exec}
 use Rattle.look.proofs.Agree.{exec_is}
 use Rattle.sheet.specs.Sheet.{header_ok, surface_ok, patch_ok, surfaces, patches, all}
 use Rattle.course.specs.Sheet.{answer_of, course_of, height_of}
-use Rattle.course.specs.declared.HeightOut.{HeightOut}
-use Rattle.tally.specs.Language.{M, look, test, Log, Outcome, goes, stops, Ran}
+use Rattle.tally.specs.Language.{M, look, test, Log, Outcome, goes, stops}
 use Rattle.tally.proofs.Triple.{Past, After, Triple, of_run, t_bind, t_then, t_pure, t_look, t_test}
 use Rattle.shot.specs.Tests.{step_physics_ok, ball_ok, landing_ok}
 use Rattle.ground.specs.Tests.{step_test, impact_test}
 use Rattle.ground.specs.Settle.{first_log}
 use Rattle.ground.specs.Step.{step_run, step_by, step_made, step_of, impact_run, impact_by, impact_made, impact_answer}
 use Rattle.ground.specs.declared.StepOut.{StepOut}
-use Rattle.ground.specs.declared.ImpactOut.{ImpactOut}
 use Rattle.promises.specs.Samples.{height_finite}
-use Rattle.promises.specs.Calls.{among, StepSays, ImpactSays, HeightSays}
+use Rattle.promises.specs.Calls.{StepSays, ImpactSays, HeightSays}
 
 -- a part that looks and tests stops with 22 alone
 module _ {o : Oracle} where

@@ -13,7 +13,7 @@ use Rattle.impact.specs.Impact.{grazing, effective_normal, impact_of, struck as 
 use Rattle.contact.specs.Contact.{slip_of}
 use Rattle.look.specs.Tree.{Oracle, run}
 use Rattle.tally.specs.Times.{is_late}
-use Rattle.tally.specs.Language.{M, Log, Outcome, goes, stops, onward, pure, look, push_point}
+use Rattle.tally.specs.Language.{M, Log, Outcome, goes, stops, pure, look, push_point}
 use Rattle.std.specs.Prelude.{if◌then◌else◌}
 use Rattle.tally.specs.Language.{push_contact, mark, truncate, steps_left, loop, Pass, again, over}
 use Rattle.tally.specs.declared.Conditions.{Conditions}

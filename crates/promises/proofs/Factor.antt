@@ -1,19 +1,12 @@
 -- Statements. Both settles are one, over the factor by which a hop step multiplies the spin (02, paper 13). Lemmas: Alike.
-use Rattle.std.specs.Prelude.{◌≡◌, Bool, List, ℕ, ◌-◌, Float, length}
-use Rattle.std.proofs.Math.Path.{refl, sym}
-use Rattle.std.proofs.Common.{◌∙◌}
-use Rattle.std.proofs.Math.Bool.{true, false}
-use Rattle.std.specs.Float.Ieee.{binary64}
-use Rattle.std.specs.Float.Ieee.Bits.{of_bits-fits}
-use borrow.Author.Tests.{le-leb}
+use Rattle.std.specs.Prelude.{◌≡◌, List, ℕ, ◌-◌, Float, length}
+use Rattle.std.proofs.Math.Bool.{false}
 use Rattle.number.specs.Ops.{dec}
 use Rattle.course.specs.Sheet.{course_of}
 use Rattle.shot.specs.declared.Shot.{Shot}
-use Rattle.hop.specs.Fade.{Doubles, factor_of, hop_fading, hop_held, held_hop, faded_hop}
+use Rattle.hop.specs.Fade.{Doubles, held_hop}
 use Rattle.train.specs.Train.{train}
-use Rattle.ground.specs.Settle.{Result, conditions_of, first_log, run_by, run_of, settle_by, settle_of}
-use Rattle.input.specs.Input.{real_at, vec_at, landing_at, sheet_at, shot_by, settle_input_by}
-use Rattle.promises.specs.Program.{Sized}
+use Rattle.ground.specs.Settle.{conditions_of, first_log, run_of, settle_of}
 use Rattle.promises.proofs.Alike.{alike_exec, train_alike}
 use Rattle.promises.specs.Factor.{settle_fading, settle_held}
 

@@ -14,13 +14,12 @@ use Rattle.state.specs.declared.BallState.{BallState}
 use Rattle.state.specs.declared.Phase.{Phase}
 use Rattle.state.specs.declared.Phase.TheVariants.{Hop as InHop, Slide as InSlide, Roll as InRoll}
 use Rattle.vector.specs.declared.DVec3.{DVec3}
-use Rattle.aero.specs.declared.BallModel.{BallModel}
 use Rattle.look.specs.Rect.{no_rect}
 use Rattle.look.proofs.Agree.{exec_is}
 use Rattle.look.specs.Tree.{Tree, Oracle, Did, exec, run, looks}
 use Rattle.look.proofs.Resume.{steps as steps_of, made as made_by, steps_are}
 use Rattle.look.proofs.Within.{and_parts, coord_fin}
-use Rattle.course.specs.Sheet.{Accepted, answer_of, course_of}
+use Rattle.course.specs.Sheet.{Accepted, course_of}
 use Rattle.records.specs.Records.{Records, null, flat, shown}
 use Rattle.shot.specs.declared.Shot.{Shot}
 use Rattle.shot.specs.declared.GroundPhysics.{GroundPhysics}

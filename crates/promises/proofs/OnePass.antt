@@ -23,7 +23,7 @@ use Rattle.rolling.specs.Times.{contact_step_onward}
 use Rattle.contact.specs.Contact.{onto_of}
 use Rattle.look.specs.Tree.{Made}
 use Rattle.tally.specs.Times.{time_eps, is_late}
-use Rattle.tally.specs.Language.{M, onward, ◌>>=◌, when, look, test, push_point, make_step, Pass, again, over}
+use Rattle.tally.specs.Language.{M, ◌>>=◌, when, look, test, push_point, make_step, Pass, again, over}
 use Rattle.std.specs.Prelude.{if◌then◌else◌}
 use Rattle.tally.specs.declared.Conditions.{Conditions}
 use Rattle.arrival.specs.declared.Arc.{Arc}
@@ -43,7 +43,6 @@ use Rattle.roll.specs.declared.Roll.{Roll}
 use Rattle.roll.specs.declared.Ending.{Ending}
 use Rattle.promises.proofs.Finite.{state_finite}
 use Rattle.promises.specs.Bracketed.{Timed, Later, HopLeads, GroundLeads, HopBracket, GroundBracket}
-use Prim.Native.Nat.{zero}
 use Rattle.shot.specs.declared.Shot.{Shot}
 use Rattle.shot.specs.declared.GroundPhysics.{GroundPhysics}
 use Rattle.shot.specs.Tests.{step_physics_ok, physics_ok, vec_about, landing_ok}

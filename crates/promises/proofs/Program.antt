@@ -1,12 +1,7 @@
--- Statements. The program's input: 12 comes with under 240 or over 34,048 bytes, and then alone; the call is then refused as any other. Assumes nothing.
-use Rattle.std.specs.Prelude.{ℕ, ◌≤◌, ◌≡◌, ◌⊎◌, Bool, List, Float, length}
+-- Statements. 12 comes with an input of under 240 or over 34,048 bytes alone. Assumes nothing.
+use Rattle.std.specs.Prelude.{ℕ, ◌≤◌, ◌≡◌, ◌⊎◌, List, Float}
 use Rattle.std.proofs.Common.{arith, inl, inr}
-use Rattle.std.proofs.Math.Path.{refl}
-use Rattle.std.proofs.Math.Bool.{true, false}
-use Rattle.std.proofs.Math.Dec.{leb}
-use borrow.Author.Tests.{leb-true, leb-false, le-leb}
-use Rattle.ground.specs.Settle.{Result, result_of, refusal, settle_of}
-use Rattle.input.specs.Input.{shot_at, sheet_at, settle_input_by, settle_input_of}
+use Rattle.input.specs.Input.{shot_at, sheet_at, settle_input_of}
 use Rattle.promises.proofs.Promises.{answers}
 use Rattle.promises.specs.Program.{Sized, sized}
 

@@ -1,15 +1,14 @@
 -- Statements. What 01 promises of every settle, on one page: each is one statement on what a call gives, proved from the lemmas of Finite.
-use Rattle.std.specs.Prelude.{ℕ, suc, ◌*◌, ◌/◌, ◌≤◌, ◌<◌, max, ◌≡◌, ◌⊎◌, Bool, ◌&&◌, List, T, leb, Float, length}
+use Rattle.std.specs.Prelude.{ℕ, ◌*◌, ◌/◌, ◌≤◌, ◌<◌, max, ◌≡◌, ◌⊎◌, Bool, ◌&&◌, List, T, leb, Float, length}
 use Rattle.std.proofs.Common.{zero-le, arith, ◌∙◌, inl, inr, leb→le}
 use Rattle.std.proofs.Math.Nat.{max-le}
 use Rattle.std.proofs.Math.Path.{refl}
 use Rattle.std.proofs.Math.Bool.{true, false}
 use Rattle.std.proofs.Math.Dec.{eqb}
-use borrow.Author.Tests.{eqb-true, eqb-false, ne_eqb}
+use borrow.Author.Tests.{eqb-true, eqb-false}
 use Rattle.number.specs.Ops.{dec}
 use Rattle.number.specs.Number.{within_of, about_of, finite_of}
 use Rattle.state.specs.declared.BallState.{BallState}
-use Rattle.aero.specs.declared.BallModel.{BallModel}
 use Rattle.state.specs.declared.Phase.{Phase}
 use Rattle.state.specs.State.{coord_ok, state_ok}
 use Rattle.look.specs.Rect.{no_rect}
@@ -30,8 +29,8 @@ use Rattle.ground_phase.specs.GroundPhase.{ground_from, ground}
 use Rattle.strike.specs.Strike.{strike, rebounds, dropped, drop}
 use Rattle.train.specs.Train.{to_ground, train_from_by, train}
 use Rattle.tally.specs.Language.{push_point, steps_left}
-use Rattle.ground.specs.Passed.{refused_by, settle_sheet, settle_passes}
-use Rattle.ground.specs.Settle.{Result, no_state, report_of, conditions_of, run_of, settle_of}
+use Rattle.ground.specs.Passed.{settle_sheet, settle_passes}
+use Rattle.ground.specs.Settle.{Result, report_of, conditions_of, run_of, settle_of}
 use Rattle.tally.proofs.Triple.{misses, Triple, t_point}
 use Rattle.promises.specs.Terms.{Answer, Each, OverDoubles, PointOf, Clear, ContactOf, Failed}
 use Rattle.promises.specs.Keeps.{own_spot, not_both}

@@ -19,7 +19,7 @@ use Rattle.tally.proofs.Triple.{Past, Triple, t_before, t_after, t_bind, t_then,
 use Rattle.hop.specs.declared.Way.{Way}
 use Rattle.hop.specs.declared.Way.TheVariants.{Arrived, Late}
 use Rattle.roll.specs.declared.Ending.{Ending}
-use Rattle.ground_phase.specs.GroundPhase.{time_up, ground}
+use Rattle.ground_phase.specs.GroundPhase.{time_up}
 use Rattle.strike.specs.Strike.{struck, strike, rebounds, dies_out, fly_by, fly, dropped, drop}
 use Rattle.strike.specs.declared.Struck.{Struck}
 use Rattle.strike.specs.declared.Flown.{Flown}

@@ -41,7 +41,7 @@ module _ (o : Oracle) where
 
   -- ---- a hop's pass
 
-  -- at most x .0 evaluations and x.1 steps, which leave 200 to spare
+  -- at most x.0 evaluations and x.1 steps, which leave 200 to spare
   abbrev At : ℕ × ℕ → Past → Type 0
   At x w = ((w.log.evaluations ≤ x.0) × (w.log.steps ≡ x.1)) × (x.0 + 200 ≤ 200 * x.1)
 

@@ -1,5 +1,5 @@
 -- Lemmas. What each word and each pass keeps, a whole run keeps, wherever it stops.
-use Prim.Native.Nat.{ℕ, zero, suc, ◌-◌}
+use Prim.Native.Nat.{ℕ, zero, suc}
 use Rattle.std.specs.Prelude.{Bool, not, Float}
 use Rattle.state.specs.declared.BallState.{BallState}
 use Rattle.state.specs.declared.Phase.{Phase}

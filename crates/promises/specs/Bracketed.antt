@@ -14,7 +14,7 @@ use Rattle.search.specs.declared.Bracket.{Bracket}
 use Rattle.slide.specs.Slide.{time_at_threshold}
 use Rattle.slide.specs.declared.Turning.{Turning}
 use Rattle.look.specs.Tree.{Oracle, looks as looks_in}
-use Rattle.tally.specs.Language.{Log, onward, in_m, evaluate, Pass, again, over}
+use Rattle.tally.specs.Language.{Log, in_m, evaluate, Pass, again, over}
 use Rattle.tally.specs.declared.Conditions.{Conditions}
 use Rattle.arrival.specs.Arrival.{clearance_at, hop_arrival}
 use Rattle.arrival.specs.RootSearch.{Gives, EvaluatesAtMost}

@@ -1,5 +1,5 @@
 -- Lemmas. Records in the order of their times, as pushes and cuts leave them; and a lent list read back as the records that it shows. Assumes nothing.
-use Rattle.std.specs.Prelude.{ℕ, zero, suc, ◌+◌, ◌-◌, ◌≤◌, ◌≡◌, refl, List, [], ◌∷◌, ◌++◌, T, Float, length, take, drop, replicate}
+use Rattle.std.specs.Prelude.{ℕ, zero, suc, ◌-◌, ◌≤◌, ◌≡◌, refl, List, [], ◌∷◌, ◌++◌, T, Float, length, take, drop, replicate}
 use Rattle.std.proofs.Common.{arith, ap, append_assoc, length-append}
 use Rattle.std.specs.Float.Ieee.{le}
 use Rattle.number.specs.Order.{le_through}

@@ -1,40 +1,14 @@
--- Statements. What 01 promises of every settle, on one page: each is one statement on what a call gives, proved from the lemmas of Finite.
-use Rattle.std.specs.Prelude.{ℕ, suc, ◌*◌, ◌/◌, ◌≤◌, ◌<◌, max, ◌≡◌, ◌⊎◌, Bool, ◌&&◌, List, T, leb, Float, length}
-use Rattle.std.proofs.Common.{zero-le, arith, ◌∙◌, inl, inr, leb→le}
-use Rattle.std.proofs.Math.Nat.{max-le}
+-- Statements. What 01 promises of a refused call. What it promises of every settle stands in proofs/Promises.
+use Rattle.std.specs.Prelude.{ℕ, ◌≤◌, ◌≡◌, List, Float, length}
+use Rattle.std.proofs.Common.{arith}
 use Rattle.std.proofs.Math.Path.{refl}
-use Rattle.std.proofs.Math.Bool.{true, false}
-use Rattle.std.proofs.Math.Dec.{eqb}
-use borrow.Author.Tests.{eqb-true, eqb-false, ne_eqb}
-use Rattle.number.specs.Ops.{dec}
-use Rattle.number.specs.Number.{within_of, about_of, finite_of}
-use Rattle.state.specs.declared.BallState.{BallState}
-use Rattle.aero.specs.declared.BallModel.{BallModel}
-use Rattle.state.specs.declared.Phase.{Phase}
-use Rattle.state.specs.State.{coord_ok, state_ok}
+use borrow.Author.Tests.{ne_eqb}
 use Rattle.look.specs.Rect.{no_rect}
-use Rattle.look.specs.Tree.{Oracle, exec}
-use Rattle.records.specs.Records.{Records, shown}
-use Rattle.look.proofs.Resume.{steps as steps_of}
-use Rattle.look.proofs.Within.{Edges, and_parts, coord_fin, edges_ok_lem, no_rect_ok}
-use Rattle.look.specs.declared.Rect.{Rect}
-use Rattle.course.specs.Sheet.{course_of}
 use Rattle.shot.specs.declared.Shot.{Shot}
-use Rattle.shot.specs.declared.GroundPhysics.{GroundPhysics}
-use Rattle.state.specs.declared.Termination.{Termination}
-use Rattle.state.specs.declared.Termination.TheVariants.{Nothing, Rest, MaxTime, MaxImpacts}
-use Rattle.shot.specs.Tests.{step_physics_ok, physics_ok, input_test}
+use Rattle.state.specs.declared.Termination.TheVariants.{Nothing}
 use Rattle.ground.specs.Tests.{refusal_of}
-use Rattle.roll.specs.Roll.{step_on, put_down, ground_step}
-use Rattle.ground_phase.specs.GroundPhase.{ground_from, ground}
-use Rattle.strike.specs.Strike.{strike, rebounds, dropped, drop}
-use Rattle.train.specs.Train.{to_ground, train_from_by, train}
-use Rattle.tally.specs.Language.{push_point, steps_left}
-use Rattle.ground.specs.Passed.{refused_by, settle_sheet, settle_passes}
-use Rattle.ground.specs.Settle.{Result, no_state, report_of, conditions_of, run_of, settle_of}
-use Rattle.tally.proofs.Triple.{misses, Triple, t_point}
-use Rattle.promises.specs.Terms.{Answer, Each, OverDoubles, PointOf, Clear, ContactOf, Failed}
-use Rattle.promises.specs.Keeps.{own_spot, not_both}
+use Rattle.ground.specs.Passed.{refused_by}
+use Rattle.ground.specs.Settle.{Result, no_state, settle_of}
 
 module _ (sheet : List ℕ) (shot : Shot) (cs ps : List Float) where
   -- what the call gives; the number of the first test that it fails, or 0

@@ -1,5 +1,5 @@
--- Statements. `decimal_of n` is n in base ten: read from left to right it gives n back (`read_back`), each byte is a digit (`digits-only`), no 0 leads
--- (`no-leading-zero`), and a number below 10 ^ w takes at most w (`at_most`).
+-- Statements. `decimal_of n` is n in base ten: read from left to right it gives n back (`read_back`), each byte is a digit (`digits_only`), no 0 leads
+-- (`no_leading_zero`), and a number below 10 ^ w takes at most w (`at_most`).
 use Prim.Native.Nat.{ℕ, zero, suc, ◌+◌, ◌-◌, ◌*◌, ◌/◌, ◌%◌, ◌^◌, ◌≤◌, ◌<◌}
 use Rattle.std.proofs.Common.{pow-suc, div-lt_iff_lt-mul, ◌∙◌, length-append, ltb-true, ltb-false}
 use native.Mathlib.Omega.{arith}

@@ -1,4 +1,4 @@
--- `dimple_card` prints the card and writes the result_of.
+-- `dimple_card` prints the card and writes the result.
 use Prim.Native.Nat.{ℕ}
 use mathlib.Core.Path.{◌≡◌}
 use mathlib.Core.List.{List}

@@ -1,7 +1,7 @@
 -- Statements. Demand 3, of the card: two accepted sheets whose courses agree within the rectangle that the first card reports print the same page,
--- with the same lists and the same result_of. The inputs have the same 240 bytes of fields before their sheets; the lists' old contents count only
+-- with the same lists and the same result. The inputs have the same 240 bytes of fields before their sheets; the lists' old contents count only
 -- where the answer is one of 4 to 8.
-use Rattle.std.specs.Prelude.{ℕ, zero, suc, ◌+◌, ◌*◌, ◌^◌, ◌≤◌, ◌<◌, ◌≡◌, refl, Bool, true, false, ◌&&◌, List, ◌++◌, leb, eqb, Float, drop, get_or}
+use Rattle.std.specs.Prelude.{ℕ, zero, suc, ◌+◌, ◌*◌, ◌≤◌, ◌<◌, ◌≡◌, refl, Bool, true, false, List, ◌++◌, leb, eqb, Float, drop}
 use native.Mathlib.Omega.{arith}
 use Rattle.std.proofs.Math.Path.{ap, sym}
 use Rattle.std.proofs.Common.{◌∙◌, subst}
@@ -11,15 +11,13 @@ use Rattle.std.specs.Float.{binary64}
 use Rattle.std.proofs.Math.ListN.{length, length-append, get_or-append}
 use Rattle.std.proofs.Math.Seq.{drop_at}
 use borrow.Author.Tests.{le-leb, ne_eqb}
-use Rattle.vector.specs.Vec.{vec}
-use Rattle.state.specs.declared.BallState.{BallState}
 use Rattle.look.proofs.Within.{AgreeIn}
 use Rattle.look.specs.declared.Rect.{Rect}
 use Rattle.octets.specs.Octets.{little}
 use Rattle.course.specs.Sheet.{Accepted, course_of}
 use Rattle.ground.specs.Settle.{Result, result_of, settle_of}
 use Rattle.promises.specs.Demand.{demand_3}
-use Rattle.input.specs.Input.{whole_at, real_at, vec_at, physics_at, ball_at, landing_at, shot_by, shot_at, sheet_at, settle_input_by, settle_input_of}
+use Rattle.input.specs.Input.{whole_at, real_at, vec_at, physics_at, ball_at, landing_at, shot_by, shot_at, settle_input_by, settle_input_of}
 use Rattle.card.specs.Card.{text_of, too_short, Carded, carded, printed_of, card_of}
 
 -- ---- the fields before a sheet do not depend on it
