@@ -1,7 +1,7 @@
 #!/usr/bin/env python3
 """Brings the repository's own names to today's spelling, once, right after port.py.
 
-usage: tools/port_names.py [--dry]        at the top of the repository
+usage: tools/port_names.py [--dry] [--table FILE]        at the top of the repository; FILE gets each old name and its new one
 
   aboutOf, noRect     definitions, lemmas and the variables in them: snake case (about_of, no_rect)
   not-below           a dash that joins two plain words becomes an underscore; one that joins two of the names in JOINED stays
@@ -233,8 +233,9 @@ def main():
             with open(path, "w", encoding="utf-8") as it:
                 it.write(new)
     print(f"{len(to)} names, {changed} files")
-    with open("/tmp/port-names.tsv", "w", encoding="utf-8") as it:
-        it.writelines(f"{a}\t{b}\n" for a, b in sorted(to.items()))
+    if "--table" in sys.argv:
+        with open(sys.argv[sys.argv.index("--table") + 1], "w", encoding="utf-8") as it:
+            it.writelines(f"{a}\t{b}\n" for a, b in sorted(to.items()))
 
 
 if __name__ == "__main__":
