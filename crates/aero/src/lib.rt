@@ -116,13 +116,13 @@ impl BallModel {
         if speed < 1e-10 {
             return GRAVITY;
         }
-        let vel_hat = vel.div(speed);
+        let vel_hat = vel / speed;
         let c = self.cd_cl(aero.spin_rate, speed, air_density);
         let q = 0.5 * air_density * speed * speed;
         let area = self.area_m2();
-        let drag = vel_hat.scale(-c.cd * q * area / self.mass_kg);
+        let drag = vel_hat * (-c.cd * q * area / self.mass_kg);
         let magnus = aero.magnus(vel_hat, c.cl * q * area / self.mass_kg);
-        GRAVITY.add(drag).add(magnus)
+        GRAVITY + drag + magnus
     }
 }
 
@@ -132,15 +132,13 @@ impl AeroParams {
         ensures { result ≡ from_spin_vector omega }
     {
         let spin_rate = omega.length();
-        if spin_rate > 1e-10 {
-            return AeroParams {
-                spin_axis: omega.div(spin_rate),
-                spin_rate,
-                spin_decay: DEFAULT_SPIN_DECAY,
-            };
-        }
+        let spin_axis = if spin_rate > 1e-10 {
+            omega / spin_rate
+        } else {
+            DVec3::Z
+        };
         AeroParams {
-            spin_axis: DVec3::Z,
+            spin_axis,
             spin_rate,
             spin_decay: DEFAULT_SPIN_DECAY,
         }
@@ -151,13 +149,11 @@ impl AeroParams {
         ensures { result ≡ magnus_of self vel_hat lift }
     {
         if number::abs(self.spin_rate) > 1e-10 {
-            let axis = self.spin_axis;
-            let lift_dir = axis.cross(vel_hat);
+            let lift_dir = self.spin_axis.cross(vel_hat);
             let lift_mag = lift_dir.length();
             if lift_mag > 1e-10 {
-                return lift_dir.div(lift_mag).scale(lift);
+                return lift_dir / lift_mag * lift;
             }
-            return DVec3::ZERO;
         }
         DVec3::ZERO
     }

@@ -1,38 +1,36 @@
--- Statements. What `aim` gives, of every call that passes its tests: the first landing of the grid that fits, with that landing's own settle; or none,
+-- Statements. What `aim` gives, of every call that passes its tests: the first landing of the grid that fits, with that landing's own settle; or None,
 -- exactly where no landing of the grid fits.
 use Rattle.std.specs.Prelude.{ℕ, zero, suc, ◌+◌, ◌≤◌, ◌⊎◌, ◌↔◌, Bool, ◌&&◌, eqb, Float, length}
 use Rattle.std.proofs.Common.{arith, ◌∙◌, sym, inl, inr, eqb-true}
 use Rattle.std.proofs.Math.Path.{◌≡◌, refl, ap}
 use Rattle.std.proofs.Math.Bool.{true, false}
 use mathlib.Core.List.{List, [], ◌∷◌, ◌++◌, Memᴰ}
-use Rattle.std.proofs.Math.Option.{Option, none, some}
+use Rattle.std.specs.Prelude.{Option, Some, None}
 use Rattle.std.specs.Float.Ieee.{le}
-use Rattle.number.specs.Ops.{◌⊕◌, ◌⊖◌, ◌⊗◌, dec}
+use Rattle.number.specs.Ops.{◌⊕◌, ◌⊖◌, ◌⊗◌}
 use Rattle.std.specs.Prelude.{if◌then◌else◌}
 use Rattle.state.specs.declared.BallState.{BallState}
 use Rattle.state.specs.declared.Termination.{Termination}
-use Rattle.state.specs.declared.Termination.TheVariants.{Nothing, Rest, MaxTime, MaxImpacts}
+use Rattle.state.specs.declared.Termination.TheVariants.{Rest, MaxTime, MaxImpacts}
 use Rattle.shot.specs.declared.Shot.{Shot}
-use Rattle.fields.specs.Fields.{whole_of}
 use Rattle.ground.specs.Tests.{refusal_of}
-use Rattle.ground.specs.Settle.{Result, no_state, settle_of}
-use Rattle.ground.specs.declared.Settled.{Settled}
+use Rattle.ground.specs.Settle.{Settled, no_state, settle_of}
 use Rattle.aim.specs.Aim.{Aim, aim, no_aim, aim_at, aim_refusal, aim_of, aim_by, fits_of, first_of, grid, row, rows, with_speeds, shot_from, is_rest, zeros}
-use Rattle.aim.specs.Passed.{never, Accepted, aim_accepted, from_speeds, speed_not_zero}
+use Rattle.aim.specs.Passed.{never, aim_accepted, from_speeds, speed_not_zero}
 use Rattle.aim.specs.declared.Target.{Target}
 
 -- ---- a settle that fits: answer 0, at rest, within the distance
 
 pub record Rests (t : Target) (s : Settled) : Type 0 where
   pub finished : s.answer ≡ 0
-  pub at_rest : s.termination ≡ Rest
+  pub at_rest : s.termination ≡ Some Rest
   pub near : le ((s.rest.pos.x ⊖ t.x) ⊗ (s.rest.pos.x ⊖ t.x) ⊕ (s.rest.pos.z ⊖ t.z) ⊗ (s.rest.pos.z ⊖ t.z)) (t.distance ⊗ t.distance) ≡ true
 
-rest_only : (w : Termination) → is_rest w ≡ true → w ≡ Rest
-rest_only Nothing e = never e
-rest_only Rest e = refl
-rest_only MaxTime e = never e
-rest_only MaxImpacts e = never e
+rest_only : (w : Option Termination) → is_rest w ≡ true → w ≡ Some Rest
+rest_only None e = never e
+rest_only (Some Rest) e = refl
+rest_only (Some MaxTime) e = never e
+rest_only (Some MaxImpacts) e = never e
 
 pub fits_rests : (t : Target) (s : Settled) → fits_of t s ≡ true → Rests t s
 unfolding fits_of
@@ -65,12 +63,12 @@ module _ {A : Type 0} (p : A → Bool) where
       go (inl q) = ap p q ∙ e
       go (inr k) = n x k
 
-  first_some : (l : List A) (a : A) → first_of p l ≡ some a → First p l a
+  first_some : (l : List A) (a : A) → first_of p l ≡ Some a → First p l a
   unfolding first_of
   first_some [] a h = absurd (let w : ◌≡◌ {A = ℕ} 0 1 = cc in omega arith)
   first_some (b ∷ l) a h = go (p b) refl (first_some l a) h
     where
-      go : (z : Bool) → p b ≡ z → (first_of p l ≡ some a → First p l a) → (if z then some b else first_of p l) ≡ some a → First p (b ∷ l) a
+      go : (z : Bool) → p b ≡ z → (first_of p l ≡ Some a → First p l a) → (if z then Some b else first_of p l) ≡ Some a → First p (b ∷ l) a
       go true e f h =
           let q : b ≡ a = cc in
           record {
@@ -90,12 +88,12 @@ module _ {A : Type 0} (p : A → Bool) where
             itself = r.itself;
           }
 
-  first_none : (l : List A) → first_of p l ≡ none → NoneOf p l
+  first_none : (l : List A) → first_of p l ≡ None → NoneOf p l
   unfolding first_of
   first_none [] h = λ x m. absurd (mathlib.Core.List.Memᴰ.not-nil m)
   first_none (b ∷ l) h = go (p b) refl (first_none l) h
     where
-      go : (z : Bool) → p b ≡ z → (first_of p l ≡ none → NoneOf p l) → (if z then some b else first_of p l) ≡ none → NoneOf p (b ∷ l)
+      go : (z : Bool) → p b ≡ z → (first_of p l ≡ None → NoneOf p l) → (if z then Some b else first_of p l) ≡ None → NoneOf p (b ∷ l)
       go true e f h = absurd (let w : ◌≡◌ {A = ℕ} 0 1 = cc in omega arith)
       go false e f h = none_cons b l e (f h)
 
@@ -143,7 +141,7 @@ module _ (sheet : List ℕ) (shot : Shot) (t : Target) (forward downward : ℕ) 
   abbrev pub out : Aim
   out = aim_of sheet shot t forward downward cs ps
 
-  -- what an accepted call gives: the first landing that fits, with the result and the lists of its own settle, over the lists as they were lent; or none,
+  -- what an accepted call gives: the first landing that fits, with the result and the lists of its own settle, over the lists as they were lent; or None,
   -- with +0 in the lists
   pub data Given : Type 0 where
     landing_given : (b : BallState) → First fits landings b → out ≡ aim_at b (settle_of sheet (shot_from shot b) cs ps) → Given
@@ -158,8 +156,8 @@ module _ (sheet : List ℕ) (shot : Shot) (t : Target) (forward downward : ℕ) 
         by o e = rw (h, e)
 
         go : (o : Option BallState) → first_of fits landings ≡ o → Given
-        go none e = none_given (first_none fits landings e) (by none e)
-        go (some b) e = landing_given b (first_some fits landings b e) (by (some b) e)
+        go None e = none_given (first_none fits landings e) (by None e)
+        go (Some b) e = landing_given b (first_some fits landings b e) (by (Some b) e)
 
     -- a landing of the grid is never turned back
     pub grid_accepted : (x : BallState) → Memᴰ x landings → refusal_of sheet (shot_from shot x) (length cs) (length ps) ≡ 0
@@ -179,7 +177,7 @@ module _ (sheet : List ℕ) (shot : Shot) (t : Target) (forward downward : ℕ) 
         let u : g.i ≤ 32 = omega (arith, g.i_most, a.rows_fit) in
         speed_not_zero g.i g.i_least u (ap (λ (s : BallState). s.vel.x) (sym g.speeds ∙ z))
 
-    -- it says none, by an all-zero landing, exactly where no landing of the grid fits
+    -- it says None, by an all-zero landing, exactly where no landing of the grid fits
     pub none_exactly : (out.aimed.landing ≡ no_state) ↔ NoneOf fits landings
     none_exactly = (λ z. says aim_given z, λ n. finds aim_given n)
       where

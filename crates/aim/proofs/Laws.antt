@@ -1,48 +1,53 @@
 -- Laws of a search through landings: one try, how far a loop has come, how it ends, and what the caller sees of it.
-use Prim.Native.Nat.{ℕ, zero, suc, ◌+◌, ◌-◌, ◌≤◌, ◌<◌}
-use native.Mathlib.Nat.{sub-zero}
-use native.Mathlib.Omega.{arith}
-use mathlib.Core.Path.{◌≡◌, refl, ap, ◌∙◌, sym, subst}
-use mathlib.Core.Bool.{Bool, true, false}
-use mathlib.Core.List.{List, [], ◌∷◌, ◌++◌}
-use mathlib.Core.Option.{Option, none, some}
-use lib.Ieee.{Float, of_bits, round}
-use lib.ListN.{length}
-use borrow.Author.Tests.{ne_eqb}
+use Rattle.std.specs.Prelude.{ℕ, suc, ◌+◌, ◌-◌, ◌≤◌, ◌<◌, ◌&&◌, Bool, eqb, Float, length, Option, Some, None, Result, Ok, Err}
 use Rattle.std.specs.Prelude.{if◌then◌else◌}
+use Rattle.std.specs.Option.{is_some}
+use Rattle.std.specs.Result.{result_eq}
+use denote.Enum.Bare.{sameb}
+use Rattle.std.proofs.Common.{arith, ◌∙◌, sym}
+use Rattle.std.proofs.Math.Path.{◌≡◌, refl, ap}
+use Rattle.std.proofs.Math.Bool.{true, false}
+use mathlib.Core.List.{List, [], ◌∷◌, ◌++◌}
+use native.Mathlib.Nat.{sub-zero}
+use lib.Ieee.{of_bits, round}
+use Rattle.std.proofs.lemmas.Bool.{ne_eqb}
 use Rattle.state.specs.declared.BallState.{BallState}
+use Rattle.state.specs.contracts.Termination.{the_type}
+use Rattle.state.specs.declared.Termination.{Termination}
+use Rattle.state.specs.declared.Termination.TheVariants.{Rest, MaxTime, MaxImpacts}
+use Rattle.refusal.specs.Refusal.{number_of, answer_by}
+use Rattle.refusal.specs.declared.Refusal.{Refusal}
+use Rattle.refusal.proofs.Numbers.{never_0}
 use Rattle.shot.specs.declared.Shot.{Shot}
 use Rattle.records.specs.Records.{zeroed}
 use Rattle.ground.specs.Tests.{refusal_of}
-use Rattle.ground.specs.Settle.{Result, result_of, settle_of}
-use Rattle.ground.specs.declared.Settled.{Settled}
-use Rattle.aim.specs.Aim.{with_speeds, row, rows, grid, shot_from, fits_of, first_of, aim, no_aim, zeros, aim_refusal, aim_of}
-use Rattle.aim.specs.Inner.{fits_from, Seeks}
-use Rattle.aim.specs.Passed.{any_lists, from_speeds}
+use Rattle.ground.specs.Settle.{Result as Settle, result_of, settle_of, told_by, ended_by}
+use Rattle.ground.specs.declared.Settled.{Settled as Code}
+use Rattle.aim.specs.Aim.{with_speeds, row, rows, grid, shot_from, is_rest, fits_of, first_of, aim, no_aim, zeros, aim_refusal, aim_of}
+use Rattle.aim.specs.Inner.{fits_from, aimed_by, Seeks}
+use Rattle.aim.specs.Passed.{never, any_lists}
 use Rattle.aim.specs.declared.Target.{Target}
 use Rattle.aim.specs.declared.Aimed.{Aimed}
-use Rattle.aim.specs.declared.Search.{Search}
-use Rattle.aim.specs.declared.Search.TheVariants.{Missed, Hit}
 
 -- ---- the first of two lists, one after the other
 module _ (p : BallState → Bool) (ys : List BallState) where
-  first_after : (xs : List BallState) → first_of p xs ≡ none → first_of p (xs ++ ys) ≡ first_of p ys
+  first_after : (xs : List BallState) → first_of p xs ≡ None → first_of p (xs ++ ys) ≡ first_of p ys
   unfolding first_of
   first_after [] h = refl
   first_after (x ∷ xs) h = go (p x) (first_after xs) h
     where
-      go : (z : Bool) → (first_of p xs ≡ none → first_of p (xs ++ ys) ≡ first_of p ys) → (if z then some x else first_of p xs) ≡ none
-          → (if z then some x else first_of p (xs ++ ys)) ≡ first_of p ys
+      go : (z : Bool) → (first_of p xs ≡ None → first_of p (xs ++ ys) ≡ first_of p ys) → (if z then Some x else first_of p xs) ≡ None
+          → (if z then Some x else first_of p (xs ++ ys)) ≡ first_of p ys
       go true f h = absurd (let w : ◌≡◌ {A = ℕ} 0 1 = cc in omega arith)
       go false f h = f h
 
-  first_in : (xs : List BallState) {b : BallState} → first_of p xs ≡ some b → first_of p (xs ++ ys) ≡ some b
+  first_in : (xs : List BallState) {b : BallState} → first_of p xs ≡ Some b → first_of p (xs ++ ys) ≡ Some b
   unfolding first_of
   first_in [] h = absurd (let w : ◌≡◌ {A = ℕ} 0 1 = cc in omega arith)
   first_in (x ∷ xs) {b} h = go (p x) (first_in xs) h
     where
-      go : (z : Bool) → (first_of p xs ≡ some b → first_of p (xs ++ ys) ≡ some b) → (if z then some x else first_of p xs) ≡ some b
-          → (if z then some x else first_of p (xs ++ ys)) ≡ some b
+      go : (z : Bool) → (first_of p xs ≡ Some b → first_of p (xs ++ ys) ≡ Some b) → (if z then Some x else first_of p xs) ≡ Some b
+          → (if z then Some x else first_of p (xs ++ ys)) ≡ Some b
       go true f h = h
       go false f h = f h
 
@@ -73,66 +78,85 @@ module _ (b : BallState) (m d : ℕ) where
   rows_end i h = let k : d + 1 - i ≡ 0 = omega arith in rw k
 
 -- ---- one try
+
+-- a call that ended at rest was not refused
+pub at_rest : (F : Refusal → Refusal → Bool) (o : Result Termination Refusal) → result_eq (sameb the_type) F o (Ok Rest) ≡ eqb (answer_by o) 0 && is_rest (ended_by o)
+at_rest F (Ok Rest) = refl
+at_rest F (Ok MaxTime) = refl
+at_rest F (Ok MaxImpacts) = refl
+at_rest F (Err r) = rw (ne_eqb _ 0 (never_0 r))
+
+-- a settle that fits came to rest
+came_to_rest : (o : Result Termination Refusal) (b : Bool) → eqb (answer_by o) 0 && is_rest (ended_by o) && b ≡ true → o ≡ Ok Rest
+came_to_rest (Ok Rest) b h = refl
+came_to_rest (Ok MaxTime) b h = never h
+came_to_rest (Ok MaxImpacts) b h = never h
+came_to_rest (Err r) b h = never (rw (ne_eqb _ 0 (never_0 r)) at h)
+
+first_holds : (p : BallState → Bool) (l : List BallState) {b : BallState} → first_of p l ≡ Some b → p b ≡ true
+unfolding first_of
+first_holds p [] h = absurd (let w : ◌≡◌ {A = ℕ} 0 1 = cc in omega arith)
+first_holds p (x ∷ l) {b} h = go (p x) refl (first_holds p l) h
+  where
+    go : (z : Bool) → p x ≡ z → (first_of p l ≡ Some b → p b ≡ true) → (if z then Some x else first_of p l) ≡ Some b → p b ≡ true
+    go true e f h = let q : x ≡ b = cc in ap p (sym q) ∙ e
+    go false e f h = f h
+
+pub found_rests : (sheet : List ℕ) (shot : Shot) (t : Target) (cs ps : List Float) (l : List BallState) (a : Aimed) {mc mp : List Float}
+    → Seeks sheet shot t (length cs) (length ps) l (Some a) mc mp → a.settled.outcome ≡ Ok Rest
+unfolding fits_of
+found_rests sheet shot t cs ps l a h =
+    let s = h cs ps refl refl in
+    let f = first_holds (fits_from sheet shot t cs ps) l s.0 in
+    came_to_rest a.settled.outcome _ (rw (← ap (λ (r : Settle). r.settled) s.1) at f)
+
 module _ (sheet : List ℕ) (shot : Shot) (t : Target) where
-  module _ (b : BallState) {from : Shot} (cs ps : List Float) {s : Settled} {mc mp : List Float}
-      (h : refusal_of sheet (shot_from shot b) (length cs) (length ps) ≡ 0) (ef : from ≡ shot_from shot b) (e : result_of s mc mp ≡ settle_of sheet from cs ps) where
-    settled_over : (ds qs : List Float) → length ds ≡ length cs → length qs ≡ length ps → result_of s mc mp ≡ settle_of sheet (shot_from shot b) ds qs
+  module _ (b : BallState) {from : Shot} (cs ps : List Float) (s : Code) {mc mp : List Float}
+      (h : refusal_of sheet (shot_from shot b) (length cs) (length ps) ≡ 0) (ef : from ≡ shot_from shot b)
+      (e : result_of (told_by s) mc mp ≡ settle_of sheet from cs ps) where
+    settled_over : (ds qs : List Float) → length ds ≡ length cs → length qs ≡ length ps → result_of (told_by s) mc mp ≡ settle_of sheet (shot_from shot b) ds qs
     settled_over ds qs ec ep = e ∙ ap (λ (x : Shot). settle_of sheet x cs ps) ef ∙ sym (any_lists sheet (shot_from shot b) cs ps ds qs h ec ep)
 
-    tried : (z : Bool) → fits_of t s ≡ z → (ds qs : List Float) → length ds ≡ length cs → length qs ≡ length ps → fits_from sheet shot t ds qs b ≡ z
-    tried z f ds qs ec ep = ap (λ (w : Result). fits_of t w.settled) (sym (settled_over ds qs ec ep)) ∙ f
+    tried : (z : Bool) → fits_of t (told_by s) ≡ z → (ds qs : List Float) → length ds ≡ length cs → length qs ≡ length ps → fits_from sheet shot t ds qs b ≡ z
+    tried z f ds qs ec ep = ap (λ (w : Settle). fits_of t w.settled) (sym (settled_over ds qs ec ep)) ∙ f
 
-    pub hits : fits_of t s ≡ true → Seeks sheet shot t (length cs) (length ps) (b ∷ []) (Hit (record { settled = s; landing = b })) mc mp
+    pub hits : fits_of t (told_by s) ≡ true → Seeks sheet shot t (length cs) (length ps) (b ∷ []) (Some (record { settled = s; landing = b })) mc mp
     unfolding first_of
     hits f ds qs ec ep = (rw (tried true f ds qs ec ep), settled_over ds qs ec ep)
 
-    pub misses : fits_of t s ≡ false → Seeks sheet shot t (length cs) (length ps) (b ∷ []) Missed mc mp
+    pub misses : fits_of t (told_by s) ≡ false → Seeks sheet shot t (length cs) (length ps) (b ∷ []) None mc mp
     unfolding first_of
     misses f ds qs ec ep = rw (tried false f ds qs ec ep)
 
   -- ---- a loop over tries
 
-  -- `left` is left of all the landings, none before it fits, and the lists are as long as they were
-  pub record Along (all : List BallState) (cs₀ ps₀ : List Float) (left : List BallState) (cs ps : List Float) : Type 0 where
-    pub cl : length cs ≡ length cs₀
-    pub pl : length ps ≡ length ps₀
-    pub same : (ds qs : List Float) → length ds ≡ length cs₀ → length qs ≡ length ps₀
-        → first_of (fits_from sheet shot t ds qs) left ≡ first_of (fits_from sheet shot t ds qs) all
+  -- `left` is left of all the landings, and none before it fits
+  pub record Along (nc np : ℕ) (all left : List BallState) : Type 0 where
+    pub same : (ds qs : List Float) → length ds ≡ nc → length qs ≡ np → first_of (fits_from sheet shot t ds qs) left ≡ first_of (fits_from sheet shot t ds qs) all
 
-module _ {sheet : List ℕ} {shot : Shot} {t : Target} where
-  pub starts : {all left : List BallState} (cs ps : List Float) → left ≡ all → Along sheet shot t all cs ps left cs ps
-  starts cs ps e = record { cl = refl; pl = refl; same = λ ds qs ec ep. ap (first_of (fits_from sheet shot t ds qs)) e }
+module _ {sheet : List ℕ} {shot : Shot} {t : Target} {nc np : ℕ} {all left : List BallState} where
+  pub starts : left ≡ all → Along sheet shot t nc np all left
+  starts e = record { same = λ ds qs ec ep. ap (first_of (fits_from sheet shot t ds qs)) e }
 
-  module _ {all left : List BallState} {cs₀ ps₀ cs ps : List Float} (a : Along sheet shot t all cs₀ ps₀ left cs ps) where
-    -- a landing of the grid passes the tests of the settle
-    pub can_try : (i j : ℕ) {b : BallState} → refusal_of sheet shot (length cs₀) (length ps₀) ≡ 0 → i ≤ 32 → j ≤ 32 → b ≡ with_speeds shot.landing i j
-        → refusal_of sheet (shot_from shot b) (length cs) (length ps) ≡ 0
-    can_try i j h u v e = rw (e, a.cl, a.pl) (from_speeds sheet shot (length cs₀) (length ps₀) i j u v h)
-
-    pub as_long : refusal_of sheet shot (length cs₀) (length ps₀) ≡ 0 → refusal_of sheet shot (length cs) (length ps) ≡ 0
-    as_long h = rw (a.cl, a.pl) h
-
-    module _ (xs ys : List BallState) {r : Search} (mc mp : List Float) (e : left ≡ xs ++ ys) (s : Seeks sheet shot t (length cs) (length ps) xs r mc mp) where
-      pub goes_on : r ≡ Missed → length mc ≡ length cs → length mp ≡ length ps → Along sheet shot t all cs₀ ps₀ ys mc mp
-      goes_on q kc kp =
+  module _ (a : Along sheet shot t nc np all left) where
+    module _ (xs ys : List BallState) {kc kp : ℕ} (mc mp : List Float) (e : left ≡ xs ++ ys) (ec : kc ≡ nc) (ep : kp ≡ np) where
+      pub goes_on : (r : Option Aimed) → Seeks sheet shot t kc kp xs r mc mp → is_some r ≡ false → Along sheet shot t nc np all ys
+      goes_on None s q =
           record {
-            cl = kc ∙ a.cl;
-            pl = kp ∙ a.pl;
-            same = λ ds qs ec ep.
-                sym (ap (first_of (fits_from sheet shot t ds qs)) e
-                ∙ first_after _ ys xs
-                (subst (λ (w : Search). Seeks sheet shot t (length cs) (length ps) xs w mc mp) q s ds qs (ec ∙ sym a.cl) (ep ∙ sym a.pl)))
-                ∙ a.same ds qs ec ep;
+            same = λ ds qs dc dp.
+                sym (ap (first_of (fits_from sheet shot t ds qs)) e ∙ first_after _ ys xs (s ds qs (dc ∙ sym ec) (dp ∙ sym ep))) ∙ a.same ds qs dc dp;
           }
+      goes_on (Some x) s q = never (sym q)
 
-      pub ends_hit : {x : Aimed} → r ≡ Hit x → Seeks sheet shot t (length cs₀) (length ps₀) all (Hit x) mc mp
-      ends_hit q ds qs ec ep =
-          let k = subst (λ (w : Search). Seeks sheet shot t (length cs) (length ps) xs w mc mp) q s ds qs (ec ∙ sym a.cl) (ep ∙ sym a.pl) in
-          (sym (a.same ds qs ec ep) ∙ ap (first_of (fits_from sheet shot t ds qs)) e ∙ first_in _ ys xs k.0, k.1)
+      pub ends_hit : (r : Option Aimed) → Seeks sheet shot t kc kp xs r mc mp → is_some r ≡ true → Seeks sheet shot t nc np all r mc mp
+      ends_hit None s q ds qs dc dp = never q
+      ends_hit (Some x) s q ds qs dc dp =
+          let k = s ds qs (dc ∙ sym ec) (dp ∙ sym ep) in
+          (sym (a.same ds qs dc dp) ∙ ap (first_of (fits_from sheet shot t ds qs)) e ∙ first_in _ ys xs k.0, k.1)
 
-    pub ends_missed : left ≡ [] → Seeks sheet shot t (length cs₀) (length ps₀) all Missed [] []
+    pub ends_missed : left ≡ [] → (mc mp : List Float) → Seeks sheet shot t nc np all None mc mp
     unfolding first_of
-    ends_missed e ds qs ec ep = sym (a.same ds qs ec ep) ∙ ap (first_of (fits_from sheet shot t ds qs)) e
+    ends_missed e mc mp ds qs dc dp = sym (a.same ds qs dc dp) ∙ ap (first_of (fits_from sheet shot t ds qs)) e
 
 -- ---- what the caller sees
 
@@ -141,22 +165,21 @@ unfolding of_bits round
 zeroed_zeros l e = rw (sub-zero, e)
 
 module _ (sheet : List ℕ) (shot : Shot) (t : Target) (forward downward : ℕ) (cs ps : List Float) where
-  pub turned_back : {n : ℕ} {a : Aimed} → n ≡ aim_refusal sheet shot t forward downward (length cs) (length ps) → (n ≡ 0 → ⊥) → a ≡ no_aim n
-      → aim a cs ps ≡ aim_of sheet shot t forward downward cs ps
+  pub turned_back : (r : Refusal) → number_of r ≡ aim_refusal sheet shot t forward downward (length cs) (length ps)
+      → aim (no_aim (number_of r)) cs ps ≡ aim_of sheet shot t forward downward cs ps
   unfolding aim_of
-  turned_back e h q = rw (← e, ne_eqb _ 0 h, q)
+  turned_back r e = rw (← e, ne_eqb _ 0 (never_0 r))
 
-  module _ (h : aim_refusal sheet shot t forward downward (length cs) (length ps) ≡ 0) {r : Search} (mc mp : List Float)
-      (s : Seeks sheet shot t (length cs) (length ps) (grid shot.landing forward downward) r mc mp) where
-    pub found : {a : Aimed} → r ≡ Hit a → aim a mc mp ≡ aim_of sheet shot t forward downward cs ps
+  module _ (h : aim_refusal sheet shot t forward downward (length cs) (length ps) ≡ 0) (mc mp : List Float) where
+    pub found : (r : Option Aimed) → Seeks sheet shot t (length cs) (length ps) (grid shot.landing forward downward) r mc mp → is_some r ≡ true
+        → aim (aimed_by (Ok r)) mc mp ≡ aim_of sheet shot t forward downward cs ps
     unfolding aim_of
-    found q =
-        let k = subst (λ (w : Search). Seeks sheet shot t (length cs) (length ps) (grid shot.landing forward downward) w mc mp) q s cs ps refl refl in
-        rw (h, k.0, ← k.1)
+    found None s q = never q
+    found (Some a) s q = let k = s cs ps refl refl in rw (h, k.0, ← k.1)
 
-    pub nothing_found : {a : Aimed} {nc np : List Float} → r ≡ Missed → a ≡ no_aim 0 → nc ≡ zeroed mc 0 → np ≡ zeroed mp 0
-        → length mc ≡ length cs → length mp ≡ length ps → aim a nc np ≡ aim_of sheet shot t forward downward cs ps
+    pub nothing_found : (r : Option Aimed) → Seeks sheet shot t (length cs) (length ps) (grid shot.landing forward downward) r mc mp → is_some r ≡ false
+        → length mc ≡ length cs → length mp ≡ length ps
+        → aim (aimed_by (Ok r)) (zeroed mc 0) (zeroed mp 0) ≡ aim_of sheet shot t forward downward cs ps
     unfolding aim_of
-    nothing_found q e ec ep kc kp =
-        let k = subst (λ (w : Search). Seeks sheet shot t (length cs) (length ps) (grid shot.landing forward downward) w mc mp) q s cs ps refl refl in
-        rw (h, k, e, ec, ep, zeroed_zeros mc kc, zeroed_zeros mp kp)
+    nothing_found None s q kc kp = let k = s cs ps refl refl in rw (h, k, zeroed_zeros mc kc, zeroed_zeros mp kp)
+    nothing_found (Some a) s q kc kp = never (sym q)

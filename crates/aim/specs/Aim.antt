@@ -1,6 +1,6 @@
 -- Definitions. `aim` (02, paper 10): the first landing of a grid whose own settle ends at rest within a distance of a wanted spot.
 use Rattle.std.specs.Prelude.{ℕ, zero, suc, ◌+◌, Bool, true, false, not, ◌&&◌, List, [], ◌∷◌, ◌++◌, leb, eqb, Float, length, replicate}
-use Rattle.std.proofs.Math.Option.{Option, none, some}
+use Rattle.std.specs.Prelude.{Option, Some, None}
 use Rattle.std.specs.Float.Ieee.{le, neg}
 use Rattle.number.specs.Ops.{◌⊕◌, ◌⊖◌, ◌⊗◌, dec}
 use Rattle.std.specs.Prelude.{if◌then◌else◌}
@@ -8,14 +8,12 @@ use Rattle.number.specs.Number.{within_of, about_of}
 use Rattle.vector.specs.Vec.{vec}
 use Rattle.state.specs.declared.BallState.{BallState}
 use Rattle.state.specs.declared.Termination.{Termination}
-use Rattle.state.specs.declared.Termination.TheVariants.{Nothing, Rest, MaxTime, MaxImpacts}
+use Rattle.state.specs.declared.Termination.TheVariants.{Rest, MaxTime, MaxImpacts}
 use Rattle.shot.specs.declared.Shot.{Shot}
 use Rattle.fields.specs.Fields.{whole_of}
 use Rattle.ground.specs.Tests.{refusal_of}
-use Rattle.ground.specs.Settle.{Result, no_state, refusal, settle_of}
-use Rattle.ground.specs.declared.Settled.{Settled}
+use Rattle.ground.specs.Settle.{Result, Settled, no_state, refusal, settle_of}
 use Rattle.aim.specs.declared.Target.{Target}
-use Rattle.aim.specs.declared.Aimed.{Aimed}
 
 -- 35: "a grid side of 0 or above 32, or a distance outside 0..10, or a spot beyond ±100,000"
 unfoldable pub aim_ok : Target → ℕ → ℕ → Bool
@@ -55,11 +53,11 @@ grid b forward downward = rows b downward forward 1
 abbrev pub shot_from : Shot → BallState → Shot
 shot_from s b = record { physics = s.physics; step_limit = s.step_limit; ball = s.ball; air_density = s.air_density; landing = b; fading = s.fading }
 
-abbrev pub is_rest : Termination → Bool
-is_rest Nothing = false
-is_rest Rest = true
-is_rest MaxTime = false
-is_rest MaxImpacts = false
+abbrev pub is_rest : Option Termination → Bool
+is_rest None = false
+is_rest (Some Rest) = true
+is_rest (Some MaxTime) = false
+is_rest (Some MaxImpacts) = false
 
 -- a settle that "has answer 0, ends at rest and lies within the distance in x and z, judged by squared doubles"
 unfoldable pub fits_of : Target → Settled → Bool
@@ -70,8 +68,13 @@ fits_of t s =
 
 -- the first of a list at which p is true
 unfoldable pub first_of : {A : Type 0} → (A → Bool) → List A → Option A
-first_of p [] = none
-first_of p (a ∷ l) = if p a then some a else first_of p l
+first_of p [] = None
+first_of p (a ∷ l) = if p a then Some a else first_of p l
+
+-- a landing and the result of its settle
+pub record Aimed : Type 0 where
+  pub settled : Settled
+  pub landing : BallState
 
 -- all that a call gives: the landing and what it returns of its settle, and both lists
 pub record Aim : Type 0 where
@@ -101,8 +104,8 @@ module _ (sheet : List ℕ) (shot : Shot) (target : Target) (forward downward : 
 
   -- "It returns the first .."; "It says none, with answer 0 and an all-zero landing .. The lists then hold +0"
   abbrev pub aim_by : Option BallState → Aim
-  aim_by none = aim (no_aim 0) (zeros (length cs)) (zeros (length ps))
-  aim_by (some b) = aim_at b (run_from b)
+  aim_by None = aim (no_aim 0) (zeros (length cs)) (zeros (length ps))
+  aim_by (Some b) = aim_at b (run_from b)
 
   -- lists untouched on a number
   unfoldable pub aim_of : Aim

@@ -2,12 +2,15 @@
 #![tactic(auto)]
 
 ghost use Rattle.std.specs.Prelude.{◌≡◌, ◌≤◌, [], ◌∷◌, length};
-ghost use Rattle.course.specs.Index.{Ready};
+ghost use Rattle.refusal.specs.Refusal.{answer_by};
 ghost use Rattle.ground.specs.Tests.{refusal_of};
-ghost use Rattle.aim.specs.Aim.{aim_ok, aim_refusal, with_speeds, shot_from, is_rest, fits_of, row, rows, aim as given, no_aim, aim_of};
-ghost use Rattle.aim.specs.Inner.{Seeks};
+ghost use Rattle.aim.specs.Aim.{aim_ok, aim_refusal, with_speeds, shot_from, fits_of, row, rows, aim as given, aim_of};
+ghost use Rattle.aim.specs.Inner.{aimed_by, CameToRest, Seeks};
+ghost use Rattle.ground.specs.Settle.{told_by};
 
+use course::Course;
 use ground::Settled;
+use refusal::Refusal;
 use shot::Shot;
 use state::{BallState, Termination};
 use vector::DVec3;
@@ -20,24 +23,17 @@ pub struct Target {
     pub distance: f64,
 }
 
-// A landing and the result of its settle; of no landing, all +0.
+// A landing and the result of its settle.
 #[derive(Clone, Copy)]
 pub struct Aimed {
     pub settled: Settled,
     pub landing: BallState,
 }
 
-// What a search through landings found.
-#[derive(Clone, Copy)]
-enum Search {
-    Missed,
-    Hit(Aimed),
-}
-
 // ---- tests
 
-fn aim_ok(target: Target, forward: u64, downward: u64) -> bool
-    ensures { result ≡ aim_ok target forward downward }
+fn aim_ok(target: &Target, forward: u64, downward: u64) -> bool
+    ensures { result ≡ aim_ok target.now forward downward }
 {
     (1 <= forward)
         & (forward <= 32)
@@ -48,197 +44,145 @@ fn aim_ok(target: Target, forward: u64, downward: u64) -> bool
         & number::within(-100000.0, 100000.0, target.z)
 }
 
-// The first test that fails, or 0.
+// The first test that fails.
+#[tactic(auto, unfolding(crate::specs::Aim::aim_refusal))]
 fn aim_refusal(
     sheet: &[u8],
-    shot: Shot,
-    target: Target,
+    shot: &Shot,
+    target: &Target,
     forward: u64,
     downward: u64,
     contacts: usize,
     points: usize,
-) -> u32
-    ensures { result ≡ aim_refusal sheet.now shot target forward downward contacts points }
+) -> Result<(), Refusal>
+    ensures { answer_by result ≡ aim_refusal sheet.now shot.now target.now forward downward contacts points }
 {
-    let answer = ground::refusal(sheet, shot, contacts, points);
-    if answer != 0 {
-        return answer;
-    }
+    ground::refusal(sheet, shot, contacts, points)?;
     if !aim_ok(target, forward, downward) {
-        return 35;
+        return Err(Refusal::Aim);
     }
-    0
+    Ok(())
 }
 
 // ---- the grid
 
 // The shot's landing with forward speed i and downward speed j.
-fn with_speeds(shot: Shot, i: u64, j: u64) -> BallState
-    ensures { result ≡ with_speeds shot.landing i j }
+fn with_speeds(shot: &Shot, i: u64, j: u64) -> BallState
+    ensures { result ≡ with_speeds shot.now.landing i j }
 {
-    let landing = shot.landing;
-    let pos = landing.pos;
-    let spin = landing.spin;
-    let x = fields::whole(i);
-    let y = fields::whole(j);
-    let vel = DVec3 { x, y: -y, z: 0.0 };
     BallState {
-        time: landing.time,
-        pos,
-        vel,
-        spin,
+        vel: DVec3 {
+            x: fields::whole(i),
+            y: -fields::whole(j),
+            z: 0.0,
+        },
+        ..shot.landing
     }
 }
 
 // The shot from another landing.
-fn shot_from(shot: Shot, landing: BallState) -> Shot
-    ensures { result ≡ shot_from shot landing }
+fn shot_from(shot: &Shot, landing: BallState) -> Shot
+    ensures { result ≡ shot_from shot.now landing }
 {
-    let physics = shot.physics;
-    let ball = shot.ball;
-    Shot {
-        physics,
-        step_limit: shot.step_limit,
-        ball,
-        air_density: shot.air_density,
-        landing,
-        fading: shot.fading,
-    }
+    Shot { landing, ..*shot }
 }
 
 // ---- the search
 
-fn is_rest(t: Termination) -> bool
-    ensures { result ≡ is_rest t }
-{
-    match t {
-        Termination::Nothing => false,
-        Termination::Rest => true,
-        Termination::MaxTime => false,
-        Termination::MaxImpacts => false,
-    }
-}
-
 // Whether a run finished, at rest, within the distance of the spot.
-fn fits(target: Target, s: Settled) -> bool
-    ensures { result ≡ fits_of target s }
+fn fits(target: &Target, s: &Settled) -> bool
+    ensures { result ≡ fits_of target.now (told_by s.now) }
 {
-    let termination = s.termination;
-    let rest = s.rest;
-    let pos = rest.pos;
     let d = target.distance;
-    let dx = pos.x - target.x;
-    let dz = pos.z - target.z;
-    (s.answer == 0) & is_rest(termination) & (dx * dx + dz * dz <= d * d)
+    let dx = s.rest.pos.x - target.x;
+    let dz = s.rest.pos.z - target.z;
+    (s.outcome == Ok(Termination::Rest)) & (dx * dx + dz * dz <= d * d)
 }
 
 // One landing.
 fn try_at(
-    sheet: &[u8],
-    index: &[u64],
-    shot: Shot,
-    target: Target,
+    course: &Course,
+    shot: &Shot,
+    target: &Target,
     landing: BallState,
     contacts: &mut [f64],
     points: &mut [f64],
-) -> Search
-    requires { (refusal_of sheet.now (shot_from shot landing) (length contacts.old) (length points.old) ≡ 0) × Ready sheet.now index.now }
-    ensures { Seeks sheet.now shot target (length contacts.old) (length points.old) (landing ∷ []) result contacts.new points.new }
+) -> Option<Aimed>
+    requires { refusal_of course.now (shot_from shot.now landing) (length contacts.old) (length points.old) ≡ 0 }
+    ensures { Seeks course.now shot.now target.now (length contacts.old) (length points.old) (landing ∷ []) result contacts.new points.new }
 {
-    let settled = ground::settle_with(sheet, index, shot_from(shot, landing), contacts, points);
-    if fits(target, settled) {
-        return Search::Hit(Aimed { settled, landing });
+    let settled = ground::settle_with(course, &shot_from(shot, landing), contacts, points);
+    if fits(target, &settled) {
+        return Some(Aimed { settled, landing });
     }
-    Search::Missed
+    None
 }
 
 // The downward speeds from 1 on, with forward speed i.
 fn try_row(
-    sheet: &[u8],
-    index: &[u64],
-    shot: Shot,
-    target: Target,
+    course: &Course,
+    shot: &Shot,
+    target: &Target,
     i: u64,
     downward: u64,
     contacts: &mut [f64],
     points: &mut [f64],
-) -> Search
-    requires { (refusal_of sheet.now shot (length contacts.old) (length points.old) ≡ 0) × Ready sheet.now index.now × (i ≤ 32) × (downward ≤ 32) }
-    ensures { Seeks sheet.now shot target (length contacts.old) (length points.old) (row shot.landing i downward 1) result contacts.new points.new }
+) -> Option<Aimed>
+    requires { (refusal_of course.now shot.now (length contacts.old) (length points.old) ≡ 0) × (i ≤ 32) × (downward ≤ 32) }
+    ensures { Seeks course.now shot.now target.now (length contacts.old) (length points.old) (row shot.now.landing i downward 1) result contacts.new points.new }
 {
-    let mut j: u64 = 1;
-    while j <= downward {
-        let landing = with_speeds(shot, i, j);
-        let tried = try_at(sheet, index, shot, target, landing, contacts, points);
-        match tried {
-            Search::Hit(a) => {
-                return Search::Hit(a);
-            }
-            Search::Missed => {
-                j += 1;
-            }
+    for j in 1..=downward {
+        let found = try_at(
+            course,
+            shot,
+            target,
+            with_speeds(shot, i, j),
+            contacts,
+            points,
+        );
+        if found.is_some() {
+            return found;
         }
     }
-    Search::Missed
+    None
 }
 
 // The forward speeds from 1 on.
 fn try_grid(
-    sheet: &[u8],
-    index: &[u64],
-    shot: Shot,
-    target: Target,
+    course: &Course,
+    shot: &Shot,
+    target: &Target,
     forward: u64,
     downward: u64,
     contacts: &mut [f64],
     points: &mut [f64],
-) -> Search
-    requires { (refusal_of sheet.now shot (length contacts.old) (length points.old) ≡ 0) × Ready sheet.now index.now × (forward ≤ 32) × (downward ≤ 32) }
-    ensures { Seeks sheet.now shot target (length contacts.old) (length points.old) (rows shot.landing downward forward 1) result contacts.new points.new }
+) -> Option<Aimed>
+    requires { (refusal_of course.now shot.now (length contacts.old) (length points.old) ≡ 0) × (forward ≤ 32) × (downward ≤ 32) }
+    ensures { Seeks course.now shot.now target.now (length contacts.old) (length points.old) (rows shot.now.landing downward forward 1) result contacts.new points.new }
 {
-    let mut i: u64 = 1;
-    while i <= forward {
-        let tried = try_row(sheet, index, shot, target, i, downward, contacts, points);
-        match tried {
-            Search::Hit(a) => {
-                return Search::Hit(a);
-            }
-            Search::Missed => {
-                i += 1;
-            }
+    for i in 1..=forward {
+        let found = try_row(course, shot, target, i, downward, contacts, points);
+        if found.is_some() {
+            return found;
         }
     }
-    Search::Missed
+    None
 }
 
-// What a call hands back with no landing: the number, 0 where none fits, and +0 in all the rest.
-pub fn no_aim(answer: u32) -> Aimed
-    ensures { result ≡ no_aim answer }
-{
-    Aimed {
-        settled: ground::refused(answer),
-        landing: BallState {
-            time: 0.0,
-            pos: DVec3::ZERO,
-            vel: DVec3::ZERO,
-            spin: DVec3::ZERO,
-        },
-    }
-}
-
-// The first landing of the grid, by forward and then by downward speed, whose run fits the target, with that run.
+// The first landing of the grid, by forward and then by downward speed, whose run fits the target, with that run; none where no landing's run does.
 pub fn aim(
     sheet: &[u8],
-    shot: Shot,
-    target: Target,
+    shot: &Shot,
+    target: &Target,
     forward: u64,
     downward: u64,
     contacts: &mut [f64],
     points: &mut [f64],
-) -> Aimed
-    ensures { given result contacts.new points.new ≡ aim_of sheet.now shot target forward downward contacts.old points.old }
+) -> Result<Option<Aimed>, Refusal>
+    ensures rests { CameToRest result }
+    ensures given { given (aimed_by result) contacts.new points.new ≡ aim_of sheet.now shot.now target.now forward downward contacts.old points.old }
 {
-    let answer = aim_refusal(
+    aim_refusal(
         sheet,
         shot,
         target,
@@ -246,21 +190,13 @@ pub fn aim(
         downward,
         contacts.len(),
         points.len(),
-    );
-    if answer != 0 {
-        return no_aim(answer);
+    )?;
+    let mut words = [0u64; index::INDEX_WORDS];
+    let course = Course::indexed(sheet, &mut words);
+    let found = try_grid(&course, shot, target, forward, downward, contacts, points);
+    if found.is_none() {
+        records::zero_from(contacts, 0);
+        records::zero_from(points, 0);
     }
-    let mut index = [0u64; course::INDEX_WORDS];
-    course::make_index(sheet, &mut index);
-    let found = try_grid(
-        sheet, &index, shot, target, forward, downward, contacts, points,
-    );
-    match found {
-        Search::Hit(a) => a,
-        Search::Missed => {
-            records::zero_from(contacts, 0);
-            records::zero_from(points, 0);
-            no_aim(0)
-        }
-    }
+    Ok(found)
 }

@@ -1,8 +1,12 @@
 -- Definitions. `aim` over the input of the program settle, and what its door gives but for the result (include/dimple.h).
-use Rattle.std.specs.Prelude.{ℕ, ◌&&◌, List, leb, Float, length}
+use Rattle.state.specs.declared.Termination.TheVariants.{Rest}
+use Rattle.std.specs.Prelude.{ℕ, ◌≡◌, ◌&&◌, List, leb, Float, length, Option, Some, None, Result, Ok, Err}
+use Rattle.refusal.specs.declared.Refusal.{Refusal}
+use Rattle.refusal.specs.Refusal.{number_of}
 use Rattle.std.specs.Prelude.{if◌then◌else◌}
 use Rattle.fields.specs.Fields.{state_fields, written}
-use Rattle.ground.specs.declared.Settled.{Settled}
+use Rattle.ground.specs.Settle.{Settled, refusal, told_by}
+use Rattle.ground.specs.declared.Settled.{Settled as Code}
 use Rattle.input.specs.Input.{sheet_at, shot_at}
 use Rattle.aim.specs.Aim.{Aim, aim, no_aim, aim_of}
 use Rattle.aim.specs.declared.Target.{Target}
@@ -11,6 +15,15 @@ use Rattle.aim.specs.declared.Target.{Target}
 unfoldable pub aim_input_of : List ℕ → Target → ℕ → ℕ → List Float → List Float → Aim
 aim_input_of s t forward downward cs ps =
     if leb 240 (length s) && leb (length s) 34048 then aim_of (sheet_at s) (shot_at s) t forward downward cs ps else aim (no_aim 12) cs ps
+
+-- the code's result: a settle; of none all +0, with 0 or the refusal's number
+abbrev pub found_by : Result (Option Code) Refusal → Settled
+found_by (Ok (Some s)) = told_by s
+found_by (Ok None) = refusal 0
+found_by (Err r) = refusal (number_of r)
+
+abbrev pub FoundAtRest : Result (Option Code) Refusal → Type 0
+FoundAtRest r = (s : Code) → r ≡ Ok (Some s) → s.outcome ≡ Ok Rest
 
 -- what is returned, and the three lists: the landing is ten doubles, time, pos, vel, spin
 pub record Into : Type 0 where

@@ -3,32 +3,33 @@
 
 ghost use Rattle.std.specs.Prelude.{◌≡◌, length};
 ghost use Rattle.aim.specs.Aim.{aim as given};
-ghost use Rattle.aim_door.specs.AimInput.{aim_input_of, into, into_of};
+ghost use Rattle.aim.specs.Inner.{aimed_by, CameToRest};
+ghost use Rattle.aim_door.specs.AimInput.{aim_input_of, found_by, FoundAtRest, into, into_of};
 
 use aim::{Aimed, Target};
 use ground::Settled;
+use refusal::Refusal;
+use state::BallState;
 
 // 12 for under 240 or over 34,048 bytes; the other answers are aim's.
 fn aim_input(
     input: &[u8],
-    target: Target,
+    target: &Target,
     forward: u64,
     downward: u64,
     contacts: &mut [f64],
     points: &mut [f64],
-) -> Aimed
-    ensures { given result contacts.new points.new ≡ aim_input_of input.now target forward downward contacts.old points.old }
+) -> Result<Option<Aimed>, Refusal>
+    ensures rests { CameToRest result }
+    ensures given { given (aimed_by result) contacts.new points.new ≡ aim_input_of input.now target.now forward downward contacts.old points.old }
 {
-    if input.len() < 240 {
-        return aim::no_aim(12);
-    }
-    if 34048 < input.len() {
-        return aim::no_aim(12);
+    if input.len() < 240 || 34048 < input.len() {
+        return Err(Refusal::InputLength);
     }
     let shot = input::shot_at(input, false);
     aim::aim(
         &input[240..],
-        shot,
+        &shot,
         target,
         forward,
         downward,
@@ -37,28 +38,45 @@ fn aim_input(
     )
 }
 
+// The landing that was found; of none all +0.
+#[tactic(auto, using(number::proofs::Steps::steps))]
+fn landing_of(found: &Result<Option<Aimed>, Refusal>) -> BallState
+    ensures { result ≡ (aimed_by found.now).landing }
+{
+    match found {
+        Ok(Some(aimed)) => aimed.landing,
+        Ok(None) => BallState::ZERO,
+        Err(_) => BallState::ZERO,
+    }
+}
+
+// Its settle.
+fn settled_of(found: &Result<Option<Aimed>, Refusal>) -> Result<Option<Settled>, Refusal>
+    ensures rests { CameToRest found.now → FoundAtRest result }
+    ensures same { found_by result ≡ (aimed_by found.now).settled }
+{
+    match found {
+        Ok(Some(aimed)) => Ok(Some(aimed.settled)),
+        Ok(None) => Ok(None),
+        Err(refusal) => Err(*refusal),
+    }
+}
+
 // Aims, and writes the landing.
 pub fn aim_into(
     input: &[u8],
-    target: Target,
+    target: &Target,
     forward: u64,
     downward: u64,
     contacts: &mut [f64],
     points: &mut [f64],
     landing: &mut [f64],
-) -> Settled
+) -> Result<Option<Settled>, Refusal>
     requires { length landing.old ≡ 10 }
-    ensures { into result contacts.new points.new landing.new ≡ into_of (aim_input_of input.now target forward downward contacts.old points.old) landing.old }
+    ensures rests { FoundAtRest result }
+    ensures into { into (found_by result) contacts.new points.new landing.new ≡ into_of (aim_input_of input.now target.now forward downward contacts.old points.old) landing.old }
 {
-    let a = aim_input(input, target, forward, downward, contacts, points);
-    let settled = a.settled;
-    let b = a.landing;
-    let pos = b.pos;
-    let vel = b.vel;
-    let spin = b.spin;
-    let rec = [
-        b.time, pos.x, pos.y, pos.z, vel.x, vel.y, vel.z, spin.x, spin.y, spin.z,
-    ];
-    fields::put(landing, 0, &rec);
-    settled
+    let found = aim_input(input, target, forward, downward, contacts, points);
+    fields::put_state(landing, 0, landing_of(&found));
+    settled_of(&found)
 }

@@ -1,8 +1,7 @@
 -- Statements. An arrival makes at most 200 evaluations: those of its one search, if it has a crossing. Assumes nothing.
 use Prim.Native.Nat.{ℕ, zero, suc, ◌+◌}
 use Rattle.std.proofs.Common.{arith}
-use Rattle.std.specs.Prelude.{Bool, true, false, eqb, pos, Float}
-use Rattle.std.proofs.Math.Option.{Option, none, some}
+use Rattle.std.specs.Prelude.{Bool, true, false, eqb, pos, Float, None, Some}
 use Rattle.std.specs.Float.Ieee.{le, eq, of_int, binary64}
 use Rattle.number.specs.Ops.{◌⊗◌, ◌⊘◌, dec}
 use Rattle.vector.specs.declared.DVec3.{DVec3}
@@ -38,10 +37,10 @@ module _ (arc : Arc) where
   -- 02, paper 4, as read: the looks of first_crossing are none
   crossing_from_lem : (f_end : Float) (n i : ℕ) (b : Bracket) → EvaluatesAtMost 0 (crossing_from (clearance_at arc) arc.h f_end n i b)
   unfolding crossing_from
-  crossing_from_lem f_end zero i b = value 0 none
+  crossing_from_lem f_end zero i b = value 0 None
   crossing_from_lem f_end (suc n) i b =
       after 0 (sub_step (clearance_at arc) arc.h f_end i b) _ (sub_step_lem f_end i b)
-      (λ next. either 0 (le next.f_hi (dec 0 1)) _ _ (value 0 (some next)) (crossing_from_lem f_end n (i + 1) next))
+      (λ next. either 0 (le next.f_hi (dec 0 1)) _ _ (value 0 (Some next)) (crossing_from_lem f_end n (i + 1) next))
 
   end_value_lem : (b : Bracket) → EvaluatesAtMost 0 (end_value arc b)
   unfolding end_value
@@ -57,7 +56,7 @@ module _ (arc : Arc) where
   arrival_at_most_200 t end spin =
       after 200 (clearance_at arc (dec 0 1)) _ (at_time (dec 0 1)) (λ f0. after 200 (first_crossing (clearance_at arc) arc.h f0 end) _ (crossing_from_lem end 8 1 _)
       (elim [
-        | none ↦ value 200 none
-        | some b ↦ grows_then (λ w. w.log.evaluations) 200 0 (crossing_time arc b) _ (crossing_time_at_most_200 b)
+        | None ↦ value 200 None
+        | Some b ↦ grows_then (λ w. w.log.evaluations) 200 0 (crossing_time arc b) _ (crossing_time_at_most_200 b)
             (λ tau. after 0 (look _ _) _ (look_evaluates _ _) (λ s. value 0 _))
       ]))

@@ -1,8 +1,7 @@
 -- Statements. The bracket that `first_crossing` gives is two doubles in order, from 0 to the step's length. Assumes nothing.
 use Prim.Native.Nat.{ℕ, zero, suc, ◌+◌, ◌≤◌}
 use Rattle.std.proofs.Common.{arith, sym, subst, eqb→eq}
-use Rattle.std.specs.Prelude.{◌≡◌, refl, Bool, true, false, eqb, Float}
-use Rattle.std.proofs.Math.Option.{Option, none, some}
+use Rattle.std.specs.Prelude.{◌≡◌, refl, Bool, true, false, eqb, Float, Option, None, Some}
 use Rattle.std.proofs.Math.Dec.{T}
 use Rattle.std.specs.Float.Ieee.{binary64, fits, round, lt, le}
 use Rattle.std.specs.Float.Ieee.Fits.{div-fits, round-fits}
@@ -17,8 +16,8 @@ use Rattle.arrival.specs.Eighths.{times_of, eighths_of, Eighths, eighths}
 use Rattle.arrival.specs.RootSearch.{Gives, gives_pure, gives_then, gives_bind}
 
 abbrev pub IfSome : {A : Type 0} → (A → Type 0) → Option A → Type 0
-IfSome P none = Unit
-IfSome P (some a) = P a
+IfSome P None = Unit
+IfSome P (Some a) = P a
 
 either : {A : Type 0} (P : A → Type 0) (c : Bool) {a b : A} → (T c → P a) → P b → P (if c then a else b)
 either P true p q = p tt
@@ -66,10 +65,10 @@ module _ (f : Float → M Float) (len f_end : Float) (double : T (fits binary64 
 
   crossing_from_lem : (n i : ℕ) (b : Bracket) → n + i ≤ 9 → Before len i b → Gives (IfSome (InStep len)) (crossing_from f len f_end n i b)
   unfolding crossing_from
-  crossing_from_lem zero i b h p = gives_pure (IfSome (InStep len)) none tt
+  crossing_from_lem zero i b h p = gives_pure (IfSome (InStep len)) None tt
   crossing_from_lem (suc n) i b h p =
       gives_then (After len i) (IfSome (InStep len)) (sub_step f len f_end i b) _ (λ next q.
-      either (Gives (IfSome (InStep len))) (le next.f_hi (dec 0 1)) (λ _. gives_pure (IfSome (InStep len)) (some next) q.in_step)
+      either (Gives (IfSome (InStep len))) (le next.f_hi (dec 0 1)) (λ _. gives_pure (IfSome (InStep len)) (Some next) q.in_step)
       (crossing_from_lem n (i + 1) next (omega arith)
       (record { double = q.double; from_0 = rw q.place (x.from_0 i (omega arith)); below = λ k. rw q.place (x.rising i (i + 1) (omega arith) k) })))
       (sub_step_lem i b (omega arith) p)

@@ -1,3 +1,4 @@
+pub mod Found
 pub mod Turns
 pub mod Ways
 pub mod FirstCrossing

@@ -1,6 +1,5 @@
 -- Definitions. Where a hop step meets the ground: ground.rs, fn clearance, fn first_crossing and fn hop_arrival.
-use Rattle.std.specs.Prelude.{ℕ, zero, suc, ◌+◌, cond, eqb, pos, Float}
-use Rattle.std.proofs.Math.Option.{Option, none, some}
+use Rattle.std.specs.Prelude.{ℕ, zero, suc, ◌+◌, cond, eqb, pos, Float, Option, None, Some}
 use Rattle.std.specs.Float.Ieee.{lt, le, eq, of_int}
 use Rattle.std.specs.Float.{binary64}
 use Rattle.number.specs.Ops.{◌⊕◌, ◌⊖◌, ◌⊗◌, ◌⊘◌, dec}
@@ -50,10 +49,10 @@ module _ (f : Float → M Float) (len f_end : Float) where
 
   -- n sub-steps left, the next being number i. 01: "accepts the first with value ≤ 0; the value at the start is never tested"
   unfoldable pub crossing_from : ℕ → ℕ → Bracket → M (Option Bracket)
-  crossing_from zero i b = pure none
+  crossing_from zero i b = pure None
   crossing_from (suc n) i b = do
     next ← sub_step i b
-    if le next.f_hi (dec 0 1) then pure (some next) else crossing_from n (i + 1) next
+    if le next.f_hi (dec 0 1) then pure (Some next) else crossing_from n (i + 1) next
 
 -- 01: "tries 8 ends in turn"
 unfoldable pub first_crossing : (Float → M Float) → Float → Float → Float → M (Option Bracket)
@@ -91,10 +90,10 @@ hop_arrival arc t end spin = do
   f0 ← clearance_at arc (dec 0 1)
   crossing ← first_crossing (clearance_at arc) arc.h f0 end
   elim crossing [
-    | none ↦ pure none
-    | some b ↦ do
+    | None ↦ pure None
+    | Some b ↦ do
       tau ← crossing_time arc b
       let arrival = arc_of arc tau
       s ← look arrival.pos.x arrival.pos.z
-      pure (some (placed arrival (t ⊕ tau) s.height spin))
+      pure (Some (placed arrival (t ⊕ tau) s.height spin))
   ]

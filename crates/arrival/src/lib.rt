@@ -1,20 +1,20 @@
-// Where a hop step meets the ground: clearance, first_crossing, find_root and hop_arrival of ground.rs.
+// Where a hop step meets the ground: clearance, first_crossing, find_root and hop_arrival of ground.rs, over a settle's tally.
 #![tactic(auto)]
 
 ghost use Rattle.std.specs.Prelude.{◌≡◌, ◌+◌, ◌≤◌};
 ghost use Rattle.course.specs.Sheet.{course_of};
-ghost use Rattle.course.specs.Index.{Ready};
 ghost use Rattle.search.specs.Search.{find_root};
 ghost use Rattle.tally.specs.Language.{in_m, evaluate};
-ghost use Rattle.tally.specs.Inner.{Looks};
-ghost use Rattle.arrival.specs.Arrival.{arc_of, clearance as clearance_of, clearance_at, advanced, at_start, sub_step, first_crossing, end_value, guess_in, ending_at, crossing_time, placed, hop_arrival};
-ghost use Rattle.arrival.specs.Inner.{value_by, sub_step_by, crossing_by, Finds, Meets, Clears, Arrives};
+ghost use Rattle.arrival.specs.Arrival.{arc_of, clearance_at, advanced, at_start, sub_step, first_crossing, end_value, guess_in, ending_at, crossing_time, placed};
+ghost use Rattle.arrival.specs.Inner.{Finds, Clears, Arrives};
 
-use look::{Look, Rect};
+use course::Course;
+use refusal::Refusal;
 use rk4::State;
-use search::{Bracket, RootStep};
+use search::Bracket;
 use state::BallState;
-use tally::{Looked, Tally};
+use std::ops::ControlFlow;
+use tally::Tally;
 use vector::DVec3;
 
 const CROSSING_SUBSTEPS: u32 = 8;
@@ -30,77 +30,43 @@ pub struct Arc {
     pub h: f64,
 }
 
-fn arc_at(arc: Arc, tau: f64) -> State
-    ensures { result ≡ arc_of arc tau }
-{
-    let a = arc.a;
-    let b = arc.b;
-    if arc.air_density > 0.0 {
-        flight::hermite(a, b, arc.h, tau)
-    } else {
-        flight::parabola(a, tau)
+impl Arc {
+    // The state a time tau into the step.
+    #[tactic(auto, using(number::proofs::Steps::steps), unfolding(crate::specs::Arrival::arc_of))]
+    fn at(&self, tau: f64) -> State
+        ensures { result ≡ arc_of self.now tau }
+    {
+        if self.air_density > 0.0 {
+            flight::hermite(self.a, self.b, self.h, tau)
+        } else {
+            flight::parabola(self.a, tau)
+        }
     }
 }
 
 // ---- clearance
 
-// A number, or a spot that failed its test.
-#[derive(Clone, Copy)]
-pub enum Value {
-    Off,
-    At(f64),
-}
-
-#[derive(Clone, Copy)]
-pub struct ValueOut {
-    pub what: Value,
-    pub rect: Rect,
-}
+// The course, the tally and the arc stay three parameters: a struct that holds them, a `&mut` among them, needs a clause at each function
+// that its references stay the same.
 
 // Height of a ball centred at `pos` above the terrain under it.
-fn clearance(sheet: &[u8], index: &[u64], rect: Rect, pos: DVec3) -> ValueOut
-    requires { Ready sheet.now index.now }
-    ensures { Looks (course_of sheet.now) rect (clearance_of pos) (value_by result.what) result.rect }
+pub fn clear(course: &Course, t: &mut Tally, pos: DVec3) -> Result<f64, Refusal>
+    ensures { Clears (course_of course.now) t.old pos result t.new }
 {
-    let seen = course::look_at(sheet, index, rect, pos.x, pos.z);
-    let q = seen.rect;
-    let what = seen.what;
-    let Look::Saw(s) = what else {
-        return ValueOut {
-            what: Value::Off,
-            rect: q,
-        };
-    };
-    ValueOut {
-        what: Value::At(pos.y - s.height),
-        rect: q,
-    }
+    let under = t.look(course, pos.x, pos.z)?;
+    Ok(pos.y - under.height)
 }
 
-fn clearance_at(sheet: &[u8], index: &[u64], rect: Rect, arc: Arc, tau: f64) -> ValueOut
-    requires { Ready sheet.now index.now }
-    ensures { Looks (course_of sheet.now) rect (clearance_at arc tau) (value_by result.what) result.rect }
+#[tactic(auto, unfolding(crate::specs::Arrival::clearance_at))]
+fn clearance_at(course: &Course, tally: &mut Tally, arc: &Arc, tau: f64) -> Result<f64, Refusal>
+    ensures { Finds (course_of course.now) (clearance_at arc.now tau) 0 tally.old result tally.new }
 {
-    let s = arc_at(arc, tau);
-    let pos = s.pos;
-    clearance(sheet, index, rect, pos)
+    clear(course, tally, arc.at(tau).pos)
 }
 
 // ---- the first crossing
 
-// The end of a sub-step as the bracket's new end, or a spot that failed its test.
-#[derive(Clone, Copy)]
-pub enum SubStep {
-    Off,
-    To(Bracket),
-}
-
-#[derive(Clone, Copy)]
-pub struct SubStepOut {
-    pub how: SubStep,
-    pub rect: Rect,
-}
-
+#[tactic(auto, unfolding(crate::specs::Arrival::advanced))]
 fn advance(b: Bracket, x: f64, fx: f64) -> Bracket
     ensures { result ≡ advanced b x fx }
 {
@@ -112,6 +78,7 @@ fn advance(b: Bracket, x: f64, fx: f64) -> Bracket
     }
 }
 
+#[tactic(auto, using(number::proofs::Steps::steps), unfolding(crate::specs::Arrival::at_start))]
 fn at_start(f0: f64) -> Bracket
     ensures { result ≡ at_start f0 }
 {
@@ -125,186 +92,92 @@ fn at_start(f0: f64) -> Bracket
 
 // Sub-step i of 8; `f_end` stands in for the clearance at the step's end.
 fn sub_step(
-    sheet: &[u8],
-    index: &[u64],
-    rect: Rect,
-    arc: Arc,
+    course: &Course,
+    tally: &mut Tally,
+    arc: &Arc,
     f_end: f64,
     i: u32,
     b: Bracket,
-) -> SubStepOut
-    requires { Ready sheet.now index.now }
-    ensures { Looks (course_of sheet.now) rect (sub_step (clearance_at arc) arc.h f_end i b) (sub_step_by result.how) result.rect }
+) -> Result<Bracket, Refusal>
+    ensures { Finds (course_of course.now) (sub_step (clearance_at arc.now) arc.now.h f_end i b) 0 tally.old result tally.new }
 {
     if i == CROSSING_SUBSTEPS {
-        let last = advance(b, arc.h, f_end);
-        return SubStepOut {
-            how: SubStep::To(last),
-            rect,
-        };
+        return Ok(advance(b, arc.h, f_end));
     }
     let x = arc.h * (i as f64) / 8.0;
-    let at = clearance_at(sheet, index, rect, arc, x);
-    let q = at.rect;
-    let what = at.what;
-    let Value::At(fx) = what else {
-        return SubStepOut {
-            how: SubStep::Off,
-            rect: q,
-        };
-    };
-    let next = advance(b, x, fx);
-    SubStepOut {
-        how: SubStep::To(next),
-        rect: q,
-    }
+    let fx = clearance_at(course, tally, arc, x)?;
+    Ok(advance(b, x, fx))
 }
 
-// A spot that failed its test, no crossing, or the sub-step with the first one.
-#[derive(Clone, Copy)]
-pub enum Crossing {
-    Off,
-    Nothing,
-    At(Bracket),
-}
-
-#[derive(Clone, Copy)]
-pub struct CrossingOut {
-    pub how: Crossing,
-    pub rect: Rect,
-}
-
+// The sub-step with the first crossing, if there is one.
 fn first_crossing(
-    sheet: &[u8],
-    index: &[u64],
-    rect: Rect,
-    arc: Arc,
+    course: &Course,
+    tally: &mut Tally,
+    arc: &Arc,
     f0: f64,
     f_end: f64,
-) -> CrossingOut
-    requires { Ready sheet.now index.now }
-    ensures { Looks (course_of sheet.now) rect (first_crossing (clearance_at arc) arc.h f0 f_end) (crossing_by result.how) result.rect }
+) -> Result<Option<Bracket>, Refusal>
+    ensures { Finds (course_of course.now) (first_crossing (clearance_at arc.now) arc.now.h f0 f_end) 0 tally.old result tally.new }
 {
     let mut b = at_start(f0);
-    let mut q = rect;
-    let mut i: u32 = 1;
-    while i <= CROSSING_SUBSTEPS {
-        let next = sub_step(sheet, index, q, arc, f_end, i, b);
-        let p = next.rect;
-        let how = next.how;
-        let SubStep::To(e) = how else {
-            return CrossingOut {
-                how: Crossing::Off,
-                rect: p,
-            };
-        };
-        if e.f_hi <= 0.0 {
-            return CrossingOut {
-                how: Crossing::At(e),
-                rect: p,
-            };
+    for i in 1..=CROSSING_SUBSTEPS {
+        b = sub_step(course, tally, arc, f_end, i, b)?;
+        if b.f_hi <= 0.0 {
+            return Ok(Some(b));
         }
-        b = e;
-        q = p;
-        i += 1;
     }
-    CrossingOut {
-        how: Crossing::Nothing,
-        rect: q,
-    }
+    Ok(None)
 }
 
 // ---- the root in the bracket
 
-// The root, or a spot that failed its test; and the evaluations made, one stopped by its spot's test among them.
-#[derive(Clone, Copy)]
-pub struct RootOut {
-    pub what: Value,
-    pub evaluations: u64,
-    pub rect: Rect,
-}
-
-fn find_root(sheet: &[u8], index: &[u64], rect: Rect, arc: Arc, b: Bracket, guess: f64) -> RootOut
-    requires { Ready sheet.now index.now }
-    ensures { Finds (course_of sheet.now) rect (find_root in_m (evaluate (clearance_at arc)) b guess) result }
+// Each evaluation is counted as it is made, one stopped by its spot's test among them. Room for 200 more is asked here and of the two callers, and is
+// no ghost field of Tally: after the search it need not hold.
+fn find_root(
+    course: &Course,
+    tally: &mut Tally,
+    arc: &Arc,
+    b: Bracket,
+    guess: f64,
+) -> Result<f64, Refusal>
+    requires { tally.old.evaluations + 200 ≤ 18446744073709551615 }
+    ensures { Finds (course_of course.now) (find_root in_m (evaluate (clearance_at arc.now)) b guess) 200 tally.old result tally.new }
 {
     let mut s = search::start_search(b, guess);
-    let mut q = rect;
-    let mut made: u64 = 0;
-    while made < ROOT_MAX_ITER {
+    for _made in 0..ROOT_MAX_ITER {
         let x = search::in_bracket(s);
-        made += 1;
-        let at = clearance_at(sheet, index, q, arc, x);
-        let p = at.rect;
-        let what = at.what;
-        let Value::At(fx) = what else {
-            return RootOut {
-                what: Value::Off,
-                evaluations: made,
-                rect: p,
-            };
-        };
-        let step = search::narrow(s, x, fx);
-        match step {
-            RootStep::Found(root) => {
-                return RootOut {
-                    what: Value::At(root),
-                    evaluations: made,
-                    rect: p,
-                };
-            }
-            RootStep::Next(n) => {
-                s = n;
-                q = p;
-            }
+        tally.evaluations += 1;
+        let fx = clearance_at(course, tally, arc, x)?;
+        match search::narrow(s, x, fx) {
+            ControlFlow::Continue(next) => s = next,
+            ControlFlow::Break(root) => return Ok(root),
         }
     }
-    let last = s.bracket;
-    RootOut {
-        what: Value::At(last.hi),
-        evaluations: made,
-        rect: q,
-    }
+    Ok(s.bracket.hi)
 }
 
 // ---- the arrival
 
 // The clearance at the bracket's end: looked at again, and no more than 0, where that is the step's end.
-fn end_value(sheet: &[u8], index: &[u64], rect: Rect, arc: Arc, b: Bracket) -> ValueOut
-    requires { Ready sheet.now index.now }
-    ensures { Looks (course_of sheet.now) rect (end_value arc b) (value_by result.what) result.rect }
+fn end_value(course: &Course, tally: &mut Tally, arc: &Arc, b: Bracket) -> Result<f64, Refusal>
+    ensures { Finds (course_of course.now) (end_value arc.now b) 0 tally.old result tally.new }
 {
     if b.hi == arc.h {
-        let at = clearance_at(sheet, index, rect, arc, arc.h);
-        let q = at.rect;
-        let what = at.what;
-        let Value::At(f) = what else {
-            return ValueOut {
-                what: Value::Off,
-                rect: q,
-            };
-        };
-        return ValueOut {
-            what: Value::At(number::min(f, 0.0)),
-            rect: q,
-        };
+        let f = clearance_at(course, tally, arc, arc.h)?;
+        return Ok(number::min(f, 0.0));
     }
-    ValueOut {
-        what: Value::At(b.f_hi),
-        rect,
-    }
+    Ok(b.f_hi)
 }
 
-fn guess_in(arc: Arc, b: Bracket, end_height: f64) -> f64
-    ensures { result ≡ guess_in arc b end_height }
+#[tactic(auto, unfolding(crate::specs::Arrival::guess_in))]
+fn guess_in(arc: &Arc, b: Bracket, end_height: f64) -> f64
+    ensures { result ≡ guess_in arc.now b end_height }
 {
-    let a = arc.a;
-    let pos = a.pos;
-    let vel = a.vel;
-    let time = flight::drop_time(pos.y - end_height, vel.y);
+    let time = flight::drop_time(arc.a.pos.y - end_height, arc.a.vel.y);
     number::clamp(time, b.lo, b.hi)
 }
 
+#[tactic(auto, unfolding(crate::specs::Arrival::ending_at))]
 fn ending_at(b: Bracket, f_hi: f64) -> Bracket
     ensures { result ≡ ending_at b f_hi }
 {
@@ -317,186 +190,52 @@ fn ending_at(b: Bracket, f_hi: f64) -> Bracket
 }
 
 // The time into the step of the crossing in the bracket.
-fn crossing_time(sheet: &[u8], index: &[u64], rect: Rect, arc: Arc, b: Bracket) -> RootOut
-    requires { Ready sheet.now index.now }
-    ensures { Finds (course_of sheet.now) rect (crossing_time arc b) result }
+fn crossing_time(course: &Course, tally: &mut Tally, arc: &Arc, b: Bracket) -> Result<f64, Refusal>
+    requires { tally.old.evaluations + 200 ≤ 18446744073709551615 }
+    ensures { Finds (course_of course.now) (crossing_time arc.now b) 200 tally.old result tally.new }
 {
-    let bound = end_value(sheet, index, rect, arc, b);
-    let q = bound.rect;
-    let what = bound.what;
-    let Value::At(f_hi) = what else {
-        return RootOut {
-            what: Value::Off,
-            evaluations: 0,
-            rect: q,
-        };
-    };
-    let last = arc_at(arc, arc.h);
-    let pos = last.pos;
-    let seen = course::look_at(sheet, index, q, pos.x, pos.z);
-    let p = seen.rect;
-    let under = seen.what;
-    let Look::Saw(end) = under else {
-        return RootOut {
-            what: Value::Off,
-            evaluations: 0,
-            rect: p,
-        };
-    };
-    let bracket = ending_at(b, f_hi);
+    let f_hi = end_value(course, tally, arc, b)?;
+    let last = arc.at(arc.h).pos;
+    let end = tally.look(course, last.x, last.z)?;
     let guess = guess_in(arc, b, end.height);
-    find_root(sheet, index, p, arc, bracket, guess)
-}
-
-// A spot that failed its test, no crossing, or the arrival.
-#[derive(Clone, Copy)]
-pub enum Arrival {
-    Off,
-    Nothing,
-    At(BallState),
-}
-
-#[derive(Clone, Copy)]
-pub struct ArrivalOut {
-    pub how: Arrival,
-    pub evaluations: u64,
-    pub rect: Rect,
+    find_root(course, tally, arc, ending_at(b, f_hi), guess)
 }
 
 // The arc's state, put on the ground.
+#[tactic(auto, unfolding(crate::specs::Arrival::placed))]
 fn place(s: State, time: f64, height: f64, spin: DVec3) -> BallState
     ensures { result ≡ placed s time height spin }
 {
-    let p = s.pos;
-    let vel = s.vel;
     BallState {
         time,
         pos: DVec3 {
-            x: p.x,
+            x: s.pos.x,
             y: height,
-            z: p.z,
+            z: s.pos.z,
         },
-        vel,
+        vel: s.vel,
         spin,
     }
 }
 
-fn hop_arrival(
-    sheet: &[u8],
-    index: &[u64],
-    rect: Rect,
-    arc: Arc,
-    t: f64,
-    end: f64,
-    spin: DVec3,
-) -> ArrivalOut
-    requires { Ready sheet.now index.now }
-    ensures { Meets (course_of sheet.now) rect arc t end spin result }
-{
-    let first = clearance_at(sheet, index, rect, arc, 0.0);
-    let q0 = first.rect;
-    let what = first.what;
-    let Value::At(f0) = what else {
-        return ArrivalOut {
-            how: Arrival::Off,
-            evaluations: 0,
-            rect: q0,
-        };
-    };
-    let crossing = first_crossing(sheet, index, q0, arc, f0, end);
-    let q1 = crossing.rect;
-    let how = crossing.how;
-    match how {
-        Crossing::Off => ArrivalOut {
-            how: Arrival::Off,
-            evaluations: 0,
-            rect: q1,
-        },
-        Crossing::Nothing => ArrivalOut {
-            how: Arrival::Nothing,
-            evaluations: 0,
-            rect: q1,
-        },
-        Crossing::At(b) => {
-            let root = crossing_time(sheet, index, q1, arc, b);
-            let q2 = root.rect;
-            let time = root.what;
-            let Value::At(tau) = time else {
-                return ArrivalOut {
-                    how: Arrival::Off,
-                    evaluations: root.evaluations,
-                    rect: q2,
-                };
-            };
-            let s = arc_at(arc, tau);
-            let pos = s.pos;
-            let seen = course::look_at(sheet, index, q2, pos.x, pos.z);
-            let q3 = seen.rect;
-            let under = seen.what;
-            let Look::Saw(ground) = under else {
-                return ArrivalOut {
-                    how: Arrival::Off,
-                    evaluations: root.evaluations,
-                    rect: q3,
-                };
-            };
-            let arrival = place(s, t + tau, ground.height, spin);
-            ArrivalOut {
-                how: Arrival::At(arrival),
-                evaluations: root.evaluations,
-                rect: q3,
-            }
-        }
-    }
-}
-
-// ---- both from tally to tally, as a pass of a hop asks them
-
-// The spot failed its test, or the clearance there.
-#[derive(Clone, Copy)]
-pub enum Cleared {
-    Off,
-    At(f64, Tally),
-}
-
-pub fn clear(sheet: &[u8], index: &[u64], t: Tally, pos: DVec3) -> Cleared
-    requires { Ready sheet.now index.now }
-    ensures { Clears (course_of sheet.now) t pos result }
-{
-    let Looked::Saw(s, t1) = tally::look(sheet, index, t, pos.x, pos.z) else {
-        return Cleared::Off;
-    };
-    Cleared::At(pos.y - s.height, t1)
-}
-
-#[derive(Clone, Copy)]
-pub enum Arrived {
-    Off(Tally),
-    Nothing(Tally),
-    At(BallState, Tally),
-}
-
+// The arrival in the step, which starts at time t, if the ball meets the ground in it; `end` is the clearance at the step's end.
 pub fn arrive(
-    sheet: &[u8],
-    index: &[u64],
-    tally: Tally,
-    arc: Arc,
+    course: &Course,
+    tally: &mut Tally,
+    arc: &Arc,
     t: f64,
     end: f64,
     spin: DVec3,
-) -> Arrived
-    requires ready { Ready sheet.now index.now }
-    requires evaluations_bound { tally.evaluations + 200 ≤ 18446744073709551615 }
-    ensures { Arrives (course_of sheet.now) tally arc t end spin result }
+) -> Result<Option<BallState>, Refusal>
+    requires { tally.old.evaluations + 200 ≤ 18446744073709551615 }
+    ensures { Arrives (course_of course.now) tally.old arc.now t end spin result tally.new }
 {
-    let rect = tally.rect;
-    let met = hop_arrival(sheet, index, rect, arc, t, end, spin);
-    let wider = met.rect;
-    let how = met.how;
-    let after = tally::with_search(tally, met.evaluations, wider);
-    match how {
-        Arrival::Off => Arrived::Off(after),
-        Arrival::Nothing => Arrived::Nothing(after),
-        Arrival::At(s) => Arrived::At(s, after),
-    }
+    let f0 = clearance_at(course, tally, arc, 0.0)?;
+    let Some(b) = first_crossing(course, tally, arc, f0, end)? else {
+        return Ok(None);
+    };
+    let tau = crossing_time(course, tally, arc, b)?;
+    let s = arc.at(tau);
+    let ground = tally.look(course, s.pos.x, s.pos.z)?;
+    Ok(Some(place(s, t + tau, ground.height, spin)))
 }

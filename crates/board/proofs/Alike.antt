@@ -1,7 +1,7 @@
 -- Statements. The order of entering does not matter (02, paper 7): what was accepted decides the listing, and calls that no test can turn back are all
 -- accepted, in any order. Assumes nothing.
 use Rattle.std.specs.Prelude.{ℕ, ◌+◌, ◌≤◌, ◌≡◌, refl, Bool, true, false, ◌&&◌, cond, T, length, replicate, Float}
-use Rattle.std.proofs.Common.{arith, ap, ap₂, ◌∙◌, sym, subst, ne_eqb, eq-eqb}
+use Rattle.std.proofs.Common.{arith, ap₂, ◌∙◌, sym, subst, ne_eqb, eq-eqb}
 use mathlib.Core.List.Permᴰ
 use mathlib.Core.List.{List, [], ◌∷◌, ◌++◌, Permᴰ}
 use Rattle.std.specs.Float.Ieee.{round, neg, le, lt, eq}

@@ -10,6 +10,7 @@ use Rattle.number.specs.Ops.{dec}
 use Rattle.number.specs.Number.{within_of}
 use Rattle.state.specs.declared.Termination.{Termination}
 use Rattle.state.specs.declared.Termination.TheVariants.{Rest, MaxTime, MaxImpacts}
+use Rattle.std.specs.Prelude.{Some}
 use Rattle.board.specs.declared.Entry.{Entry}
 use Rattle.board.specs.Rules.{key_of, by_first, moving, is_before, near, used, answer_of, insert}
 use Rattle.board.specs.Words.{All, Distinct, sort}
@@ -17,7 +18,7 @@ use Rattle.board.proofs.Alike.{Fair, Alike, alike}
 use Rattle.board.proofs.Lists.{one_most}
 use Rattle.board.specs.Board.{empty_board, enter_of, new_of, shots}
 
-nan_spot : (enter_of (empty_board (dec 0 1) (dec 0 1)) (record { shot = 1; bay = 0; termination = Rest; contacts = 1; x = nan; z = dec 0 1 })).answer ≡ 10
+nan_spot : (enter_of (empty_board (dec 0 1) (dec 0 1)) (record { shot = 1; bay = 0; termination = Some Rest; contacts = 1; x = nan; z = dec 0 1 })).answer ≡ 10
 unfolding enter_of answer_of near round neg le within_of
 nan_spot = refl
 
@@ -32,7 +33,7 @@ far_pin = refl
 -- ---- 02, paper 7: its hypotheses are met by these six, with ties at each level: two still moving at one distance, nearer than three at rest at one
 -- distance, of which two have as many contacts
 abbrev ball : ℕ → ℕ → Termination → ℕ → ℕ → ℕ → Entry
-ball n k t c x z = record { shot = n; bay = k; termination = t; contacts = c; x = dec x 1; z = dec z 1 }
+ball n k t c x z = record { shot = n; bay = k; termination = Some t; contacts = c; x = dec x 1; z = dec z 1 }
 
 six : List Entry
 six = ball 4 0 Rest 2 3 4 ∷ ball 3 1 Rest 2 4 3 ∷ ball 9 0 Rest 1 5 0 ∷ ball 2 0 MaxImpacts 1 1 0 ∷ ball 1 2 MaxTime 1 0 1 ∷ ball 7 7 Rest 5 0 0 ∷ []

@@ -1,9 +1,9 @@
 -- Statements. What the board promises of every list of calls from a new board: the listing is the accepted entries, sorted, with no shot number
 -- twice, and no bay with more than 32. Which answers a call can give, and that a refused one changes nothing. Assumes nothing.
-use Rattle.std.specs.Prelude.{ℕ, zero, suc, ◌+◌, ◌≤◌, ◌<◌, ◌≡◌, ◌⊎◌, Bool, true, false, ◌&&◌, cond, ltb, length, take, drop, get_or, Float}
+use Rattle.std.specs.Prelude.{ℕ, zero, suc, ◌≤◌, ◌<◌, ◌≡◌, ◌⊎◌, Bool, true, false, ◌&&◌, cond, ltb, length, drop, get_or, Float}
 use native.Mathlib.Omega.{arith}
 use Rattle.std.proofs.Math.Path.{refl}
-use Rattle.std.proofs.Common.{ap, ◌∙◌, sym, subst, inl, inr, length-take-le}
+use Rattle.std.proofs.Common.{ap, ◌∙◌, sym, subst, inl, inr}
 use mathlib.Core.List.Permᴰ
 use mathlib.Core.List.{List, [], ◌∷◌, Permᴰ}
 use Rattle.std.proofs.Math.Dec.{T}
@@ -14,7 +14,7 @@ use Rattle.number.specs.Ops.{dec}
 use Rattle.number.specs.Number.{about_of, finite_of}
 use Rattle.board.specs.declared.Entry.{Entry}
 use Rattle.board.specs.declared.Board.{Board}
-use Rattle.board.specs.Rules.{key_of, is_before, near, holds, used, insert, answer_of}
+use Rattle.board.specs.Rules.{key_of, is_before, holds, used, insert, answer_of}
 use Rattle.board.specs.Board.{listing, with_listing, empty_entry, empty_board, answered, given, new_of, with_entry, enter_of, placed, shots, place_of}
 use Rattle.board.specs.Words.{All, Sorted, RestFirst, Distinct, sort, Near, after, kept, accepted}
 use Rattle.board.specs.Sorting.{insert-length, length-perm, sort_permutes, sort_sorts, all_map, all_perm, distinct_perm}

@@ -1,6 +1,6 @@
 -- Lemmas. Eight bays of 32 entries each: their counts add up to the length of a list, and do not depend on its order.
 use Rattle.std.specs.Prelude.{ℕ, zero, suc, ◌+◌, ◌*◌, ◌≤◌, ◌<◌, ◌≡◌, refl, ◌⊎◌, Bool, true, false, cond, eqb, length}
-use Rattle.std.proofs.Common.{arith, eq-or-lt_of_le, ap, ◌∙◌, sym, inl, inr, eqb-true, eq-eqb, ne_eqb}
+use Rattle.std.proofs.Common.{arith, eq-or-lt_of_le, ap, ◌∙◌, inl, inr, eqb-true, eq-eqb, ne_eqb}
 use mathlib.Core.List.{List, [], ◌∷◌, Permᴰ}
 use Rattle.board.specs.declared.Entry.{Entry}
 use Rattle.board.specs.Rules.{one, used}

@@ -1,6 +1,6 @@
 -- Lemmas. Lawful comparisons, one after another, make a strict order that is total where one of them tells two entries apart.
-use Rattle.std.specs.Prelude.{ℕ, ◌≤◌, ◌<◌, ◌≡◌, ◌⊎◌, Bool, true, false, not, ◌&&◌, ◌||◌, ltb, eqb}
-use Rattle.std.proofs.Common.{arith, sym, subst, ltb→lt, lt→ltb, nltb→le, eqb→eq}
+use Rattle.std.specs.Prelude.{ℕ, ◌≤◌, ◌≡◌, ◌⊎◌, Bool, true, false, not, ◌&&◌, ◌||◌, ltb, eqb}
+use Rattle.std.proofs.Common.{arith, ltb→lt, lt→ltb, nltb→le, eqb→eq}
 use Rattle.std.proofs.Math.Logic.{inl, inr}
 use mathlib.Core.List.{List, [], ◌∷◌}
 use Rattle.std.proofs.Math.Dec.{T}

@@ -1,6 +1,6 @@
 -- Lemmas. Keys are finite numbers, so the order of a listing is a strict order that tells distinct shot numbers apart.
 use Rattle.std.specs.Prelude.{ℕ, ◌+◌, ◌*◌, ◌≤◌, ◌≡◌, refl, ◌⊎◌, Bool, false, List, [], ◌∷◌, ℤ, pos, Float}
-use Rattle.std.proofs.Common.{arith, mul-one, zero-mul, mul-pos, mul-le-mul, ◌∙◌, sym, inl, inr, T_not}
+use Rattle.std.proofs.Common.{arith, mul-one, zero-mul, mul-pos, mul-le-mul, ◌∙◌, sym, inl, inr}
 use Rattle.std.proofs.Math.Path.{subst}
 use Rattle.std.proofs.Math.Bool.{true}
 use Rattle.std.proofs.Math.Dec.{T, not_T, eqb→eq}
@@ -14,7 +14,8 @@ use Rattle.number.specs.Order.{Le, le→, lt-le, eq-le, lt-nle, le_total, le_spl
 use Rattle.number.specs.Order.{le_through, within_lo, within_hi, within_of_lem, between_finite}
 use Rattle.number.specs.Rounding.{about_finite, sub_mono, add_mono, round_between}
 use Rattle.state.specs.declared.Termination.{Termination}
-use Rattle.state.specs.declared.Termination.TheVariants.{Nothing, Rest, MaxTime, MaxImpacts}
+use Rattle.state.specs.declared.Termination.TheVariants.{Rest, MaxTime, MaxImpacts}
+use Rattle.std.specs.Prelude.{Option, Some, None}
 use Rattle.board.specs.declared.Entry.{Entry}
 use Rattle.board.specs.Rules.{key_of, Comparison, least_key, lower, moving, cleaner, by_first, is_before}
 use Rattle.board.specs.Words.{Sorted, RestFirst, Near}
@@ -141,24 +142,24 @@ module _ (px pz : Float) where
       other e f d h (inr (inr a)) = absurd (d (level_shots e f a))
 
 -- one at rest comes before one that moves, whatever their keys
-pub rest_before : (px pz : Float) (e f : Entry) → e.termination ≡ Rest → (f.termination ≡ Rest → ⊥) → is_before px pz e f ≡ true
+pub rest_before : (px pz : Float) (e f : Entry) → e.termination ≡ Some Rest → (f.termination ≡ Some Rest → ⊥) → is_before px pz e f ≡ true
 unfolding is_before by_first moving
 rest_before px pz e f h k = rw (h, moves f.termination k)
   where
-    moves : (t : Termination) → (t ≡ Rest → ⊥) → moving t ≡ 1
-    moves Nothing k = refl
-    moves Rest k = absurd (k refl)
-    moves MaxTime k = refl
-    moves MaxImpacts k = refl
+    moves : (t : Option Termination) → (t ≡ Some Rest → ⊥) → moving t ≡ 1
+    moves None k = refl
+    moves (Some Rest) k = absurd (k refl)
+    moves (Some MaxTime) k = refl
+    moves (Some MaxImpacts) k = refl
 
 pub sorted_rest_first : (px pz : Float) (l : List Entry) → Sorted (is_before px pz) l → RestFirst l
 unfolding Sorted RestFirst
 sorted_rest_first px pz [] s = tt
 sorted_rest_first px pz
     (e ∷ l) s = (
-      λ m. all_map (λ (f : Entry). is_before px pz f e ≡ false) (λ (f : Entry). f.termination ≡ Rest → ⊥) l (after m) s.0,
+      λ m. all_map (λ (f : Entry). is_before px pz f e ≡ false) (λ (f : Entry). f.termination ≡ Some Rest → ⊥) l (after m) s.0,
       sorted_rest_first px pz l s.1,
     )
   where
-    after : (e.termination ≡ Rest → ⊥) → (f : Entry) → is_before px pz f e ≡ false → f.termination ≡ Rest → ⊥
+    after : (e.termination ≡ Some Rest → ⊥) → (f : Entry) → is_before px pz f e ≡ false → f.termination ≡ Some Rest → ⊥
     after m f b r = subst T (sym (rest_before px pz f e r m) ∙ b) tt

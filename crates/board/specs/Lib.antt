@@ -1,4 +1,5 @@
 pub mod Rules
+pub mod Answers
 pub mod Board
 pub mod Inner
 pub mod Words

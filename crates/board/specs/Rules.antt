@@ -5,7 +5,8 @@ use Rattle.std.specs.Float.Ieee.{lt, eq}
 use Rattle.number.specs.Ops.{◌⊕◌, ◌⊖◌, ◌⊗◌, dec}
 use Rattle.number.specs.Number.{about_of}
 use Rattle.state.specs.declared.Termination.{Termination}
-use Rattle.state.specs.declared.Termination.TheVariants.{Nothing, Rest, MaxTime, MaxImpacts}
+use Rattle.state.specs.declared.Termination.TheVariants.{Rest, MaxTime, MaxImpacts}
+use Rattle.std.specs.Prelude.{Option, Some, None}
 use Rattle.board.specs.declared.Entry.{Entry}
 
 -- 01: "Key: dx×dx + dz×dz, in doubles", from the pin
@@ -33,11 +34,11 @@ abbrev pub lower : (Entry → ℕ) → Comparison
 lower n = record { less = λ e f. ltb (n e) (n f); level = λ e f. eqb (n e) (n f) }
 
 -- 0 at rest, 1 still moving: ended "by time or by impacts", one group
-unfoldable pub moving : Termination → ℕ
-moving Nothing = 1
-moving Rest = 0
-moving MaxTime = 1
-moving MaxImpacts = 1
+unfoldable pub moving : Option Termination → ℕ
+moving None = 1
+moving (Some Rest) = 0
+moving (Some MaxTime) = 1
+moving (Some MaxImpacts) = 1
 
 -- 02, paper 7: "Among equal distances the shot with fewer contacts comes first, then the lower shot number"
 abbrev pub cleaner : List Comparison

@@ -3,9 +3,9 @@ use Rattle.std.specs.Prelude.{ℕ, zero, suc, ◌≡◌, Bool, false, List, [], 
 use Rattle.number.specs.Ops.{dec}
 use Rattle.number.specs.Number.{about_of}
 use Rattle.state.specs.declared.Termination.TheVariants.{Rest}
+use Rattle.std.specs.Prelude.{Some}
 use Rattle.board.specs.declared.Entry.{Entry}
 use Rattle.board.specs.declared.Board.{Board}
-use Rattle.board.specs.declared.Entered.{Entered}
 use Rattle.board.specs.Rules.{insert}
 use Rattle.board.specs.Board.{enter_of}
 
@@ -29,7 +29,7 @@ Distinct (e ∷ l) = All (λ (f : Entry). e.shot ≡ f.shot → ⊥) l × Distin
 -- after an entry that still moves none is at rest
 unfoldable pub RestFirst : List Entry → Type 0
 RestFirst [] = Unit
-RestFirst (e ∷ l) = ((e.termination ≡ Rest → ⊥) → All (λ (f : Entry). f.termination ≡ Rest → ⊥) l) × RestFirst l
+RestFirst (e ∷ l) = ((e.termination ≡ Some Rest → ⊥) → All (λ (f : Entry). f.termination ≡ Some Rest → ⊥) l) × RestFirst l
 
 -- insertion sort
 unfoldable pub sort : (Entry → Entry → Bool) → List Entry → List Entry

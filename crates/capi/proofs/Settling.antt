@@ -5,7 +5,7 @@ use mathlib.Core.Bool.{Bool}
 use mathlib.Core.List.{List}
 use lib.Ieee.{Float}
 use Rattle.ground.specs.Settle.{result_of}
-use Rattle.ground.specs.declared.Settled.{Settled}
+use Rattle.ground.specs.Settle.{Settled}
 use Rattle.input.specs.Input.{settle_input_by}
 use Rattle.capi.specs.Doors.{reported, settle_door, settle_door_by}
 

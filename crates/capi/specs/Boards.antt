@@ -3,7 +3,7 @@
 use Rattle.std.specs.Prelude.{ℕ, ◌&&◌, cond, List, [], ◌∷◌, eqb, length, Float}
 use Rattle.fields.specs.Fields.{whole_of, written}
 use Rattle.board.specs.Board.{new_of, place_of}
-use Rattle.board.specs.declared.Entered.{Entered}
+use Rattle.board.specs.Answers.{Entered}
 use Rattle.layout.specs.Layout.{board_length, board_ok, board_at, board_fields}
 use Rattle.layout.specs.Sent.{Sent, sent_of}
 use Rattle.capi.specs.Doors.{Door, door}

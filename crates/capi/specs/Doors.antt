@@ -5,9 +5,9 @@ use Rattle.look.specs.declared.Rect.{Rect}
 use Rattle.course.specs.Sheet.{height_of}
 use Rattle.ground.specs.Settle.{termination_number}
 use Rattle.ground.specs.Step.{step_of, impact_answer}
-use Rattle.ground.specs.declared.Settled.{Settled}
-use Rattle.ground.specs.declared.StepOut.{StepOut}
-use Rattle.ground.specs.declared.ImpactOut.{ImpactOut}
+use Rattle.ground.specs.Settle.{Settled}
+use Rattle.ground.specs.Step.{StepOut}
+use Rattle.ground.specs.Step.{ImpactOut}
 use Rattle.fields.specs.Fields.{whole_of, double_at, state_at, ball_at, state_fields, written}
 use Rattle.input.specs.Input.{settle_input_by}
 
@@ -24,6 +24,19 @@ result_fields s =
 -- how many they are
 abbrev pub result_length : ℕ
 result_length = 20
+
+-- the same with another number
+abbrev pub answered : ℕ → Settled → Settled
+answered n s = record {
+  answer = n;
+  termination = s.termination;
+  contacts = s.contacts;
+  points = s.points;
+  steps = s.steps;
+  evaluations = s.evaluations;
+  rest = s.rest;
+  rect = s.rect;
+}
 
 -- a list with room for them gets the result and keeps its tail; a shorter one is untouched
 unfoldable pub reported : Settled → List Float → List Float

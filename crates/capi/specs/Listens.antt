@@ -2,7 +2,7 @@
 use Rattle.std.specs.Prelude.{ℕ, cond, List, [], ◌∷◌, eqb, length, Float}
 use Rattle.fields.specs.Fields.{whole_of, written}
 use Rattle.listen.specs.Listen.{Listen, listen_of}
-use Rattle.listen.specs.declared.Heard.{Heard}
+use Rattle.listen.specs.Answers.{Heard}
 
 pub record ListenDoor : Type 0 where
   pub answer : ℕ

@@ -2,45 +2,55 @@
 // these functions' own answers.
 #![tactic(auto)]
 
-ghost use Rattle.std.specs.Prelude.{◌≡◌, length};
-ghost use Rattle.capi.specs.Doors.{state_length, reported, stepped, struck, door, settle_door, settle_door_of, settle_fading_door_of, step_door_of, impact_door_of, height_door_of};
+ghost use Rattle.std.specs.Prelude.{◌≡◌, [], ◌∷◌, length};
+ghost use Rattle.ground.specs.Settle.{told_by};
+ghost use Rattle.ground.specs.Step.{stepped_by, struck_by};
+ghost use Rattle.fields.specs.Fields.{written};
+ghost use Rattle.course.specs.Sheet.{height_by};
+ghost use Rattle.card.specs.Card.{card_by};
+ghost use Rattle.aim_door.specs.AimInput.{found_by};
+ghost use Rattle.state.specs.declared.BallState.{BallState};
+ghost use Rattle.capi.specs.Doors.{state_length, reported, answered as with_answer, stepped, struck, door, settle_door, settle_door_of, settle_fading_door_of, step_door_of, impact_door_of, height_door_of};
 ghost use Rattle.capi.specs.Aims.{aim_door, aim_door_of};
 ghost use Rattle.capi.specs.Cards.{card_door, card_door_of};
-ghost use Rattle.capi.specs.Listens.{listen_door, listen_door_of};
-ghost use Rattle.layout.specs.Layout.{board_length, board_at};
+ghost use Rattle.capi.specs.Listens.{total_fields, listen_door, listen_door_of};
+ghost use Rattle.listen.specs.Listen.{heard_by};
+ghost use Rattle.layout.specs.Layout.{board_at};
+ghost use Rattle.refusal.specs.Refusal.{answer_by};
 ghost use Rattle.layout.specs.Sent.{sent_of};
 ghost use Rattle.capi.specs.Boards.{entered, new_door_of, enter_door_of, place_door_of};
 ghost use Rattle.shelf_layout.specs.Doors.{answered, shelf_new_door_of, shelf_save_door_of, shelf_return_door_of, shelf_drop_door_of};
 
 use aim::Target;
-use board::{Board, Entered, Entry};
-use ground::{ImpactOut, Settled, StepOut};
+use board::{Board, Entry};
+use card::ShotCard;
+use ground::{Moved, Settled};
+use listen::Totals;
+use refusal::Refusal;
+use state::BallState;
 
 // The doubles of a settle's result, and of a step's state and phase.
 const RESULT_LENGTH: usize = 20;
 
 const STATE_LENGTH: usize = 11;
 
-// The doubles of a settle's result, if there is room for them.
-fn write_result(res: &mut [f64], s: Settled)
-    ensures { res.new ≡ reported s res.old }
+// The doubles of a settle's result with a call's answer, if there is room for them.
+fn write_result(res: &mut [f64], answer: u32, s: &Settled)
+    ensures { res.new ≡ reported (with_answer answer (told_by s.now)) res.old }
 {
     if res.len() < RESULT_LENGTH {
         return;
     }
-    let termination = s.termination;
-    let rest = s.rest;
-    let pos = rest.pos;
-    let vel = rest.vel;
-    let spin = rest.spin;
-    let rect = s.rect;
+    let pos = s.rest.pos;
+    let vel = s.rest.vel;
+    let spin = s.rest.spin;
     let rec = [
-        fields::whole(s.answer as u64),
-        fields::whole(ground::termination_number(termination)),
+        fields::whole(answer as u64),
+        fields::whole(ground::termination_number(s.outcome.ok())),
         fields::whole(s.contacts as u64),
         fields::whole(s.points as u64),
         fields::whole(s.steps),
-        rest.time,
+        s.rest.time,
         pos.x,
         pos.y,
         pos.z,
@@ -50,10 +60,10 @@ fn write_result(res: &mut [f64], s: Settled)
         spin.x,
         spin.y,
         spin.z,
-        rect.x_lo,
-        rect.x_hi,
-        rect.z_lo,
-        rect.z_hi,
+        s.rect.x_lo,
+        s.rect.x_hi,
+        s.rect.z_lo,
+        s.rect.z_hi,
         fields::whole(s.evaluations),
     ];
     fields::put(res, 0, &rec);
@@ -69,8 +79,9 @@ pub extern "C" fn dimple_settle(
     ensures { settle_door result contacts.new points.new res.new ≡ settle_door_of input.now contacts.old points.old res.old }
 {
     let s = input::settle_input(input, false, contacts, points);
-    write_result(res, s);
-    s.answer
+    let answer = refusal::answer(&s.outcome);
+    write_result(res, answer, &s);
+    answer
 }
 
 #[unsafe(no_mangle)]
@@ -83,8 +94,19 @@ pub extern "C" fn dimple_settle_fading(
     ensures { settle_door result contacts.new points.new res.new ≡ settle_fading_door_of input.now contacts.old points.old res.old }
 {
     let s = input::settle_input(input, true, contacts, points);
-    write_result(res, s);
-    s.answer
+    let answer = refusal::answer(&s.outcome);
+    write_result(res, answer, &s);
+    answer
+}
+
+// The settle's answer, or 30.
+fn card_answer(card: &ShotCard) -> u32
+    ensures { result ≡ (card_by card.now).answer }
+{
+    match card.printed {
+        Ok(()) => refusal::answer(&card.settled.outcome),
+        Err(refusal) => u32::from(refusal),
+    }
 }
 
 #[unsafe(no_mangle)]
@@ -97,9 +119,32 @@ pub extern "C" fn dimple_card(
 ) -> u32
     ensures { card_door result contacts.new points.new res.new page.new ≡ card_door_of input.now contacts.old points.old res.old page.old }
 {
-    let s = card::card(input, contacts, points, page);
-    write_result(res, s);
-    s.answer
+    let card = card::card(input, contacts, points, page);
+    let answer = card_answer(&card);
+    write_result(res, answer, &card.settled);
+    answer
+}
+
+// The answer of the settle that was found; 0 where none was.
+fn aim_answer(found: &Result<Option<Settled>, Refusal>) -> u32
+    ensures { result ≡ (found_by found.now).answer }
+{
+    match found {
+        Ok(Some(s)) => refusal::answer(&s.outcome),
+        Ok(None) => 0,
+        Err(refusal) => u32::from(*refusal),
+    }
+}
+
+// That settle; of none every number is +0.
+fn settled_of(found: &Result<Option<Settled>, Refusal>) -> Settled
+    ensures { with_answer (found_by found.now).answer (told_by result) ≡ found_by found.now }
+{
+    match found {
+        Ok(Some(s)) => *s,
+        Ok(None) => ground::refused(Refusal::Aim),
+        Err(refusal) => ground::refused(*refusal),
+    }
 }
 
 #[unsafe(no_mangle)]
@@ -125,9 +170,24 @@ pub extern "C" fn dimple_aim(
         z: spot_z,
         distance,
     };
-    let s = aim_door::aim_into(input, target, forward, downward, contacts, points, landing);
-    write_result(res, s);
-    s.answer
+    let found = aim_door::aim_into(input, &target, forward, downward, contacts, points, landing);
+    let answer = aim_answer(&found);
+    write_result(res, answer, &settled_of(&found));
+    answer
+}
+
+// Pairs, heard only, computed only; 0 on a refusal.
+fn total_numbers(heard: &Result<Totals, Refusal>) -> [f64; 3]
+    ensures { result ≡ total_fields (heard_by heard.now) }
+{
+    match heard {
+        Ok(t) => [
+            fields::whole(t.pairs as u64),
+            fields::whole(t.heard_only as u64),
+            fields::whole(t.computed_only as u64),
+        ],
+        Err(_) => [fields::whole(0); 3],
+    }
 }
 
 #[unsafe(no_mangle)]
@@ -144,37 +204,29 @@ pub extern "C" fn dimple_listen(
     if totals.len() != 3 {
         return 100;
     }
-    let h = listen::listen(heard, contacts, count, tolerance, marks);
-    let rec = [
-        fields::whole(h.pairs as u64),
-        fields::whole(h.heard_only as u64),
-        fields::whole(h.computed_only as u64),
-    ];
-    fields::put(totals, 0, &rec);
-    h.answer
+    let heard = listen::listen(heard, contacts, count, tolerance, marks);
+    fields::put(totals, 0, &total_numbers(&heard));
+    refusal::answer(&heard)
 }
 
-// The new state and its phase; on a number the phase alone, 0.
-fn write_step(state: &mut [f64], r: StepOut) -> u32
+// The new state and its phase; on a refusal the phase alone, 0.
+fn write_step(state: &mut [f64], moved: &Result<Moved, Refusal>)
     requires { length state.old ≡ state_length }
-    ensures { door result state.new ≡ stepped r state.old }
+    ensures { (given : BallState) → door (answer_by moved.now) state.new ≡ stepped (stepped_by given moved.now) state.old }
 {
-    let answer = r.answer;
-    if answer != 0 {
-        let zero = [0.0];
-        fields::put(state, 10, &zero);
-        return answer;
+    match moved {
+        Ok(m) => {
+            let s = m.state;
+            let phase = fields::whole(roll::whole_phase(m.phase) as u64);
+            let rec = [
+                s.time, s.pos.x, s.pos.y, s.pos.z, s.vel.x, s.vel.y, s.vel.z, s.spin.x, s.spin.y, s
+                    .spin
+                    .z, phase,
+            ];
+            fields::put(state, 0, &rec);
+        }
+        Err(_) => fields::put(state, 10, &[0.0]),
     }
-    let s = r.state;
-    let pos = s.pos;
-    let vel = s.vel;
-    let spin = s.spin;
-    let phase = fields::whole(r.phase as u64);
-    let rec = [
-        s.time, pos.x, pos.y, pos.z, vel.x, vel.y, vel.z, spin.x, spin.y, spin.z, phase,
-    ];
-    fields::put(state, 0, &rec);
-    0
 }
 
 #[unsafe(no_mangle)]
@@ -192,28 +244,20 @@ pub extern "C" fn dimple_step(sheet: &[u8], physics: &[f64], ball: &[f64], state
     }
     let s = fields::state_at(state, 0);
     let b = fields::ball_at(ball, 0);
-    let r = ground::step(sheet, physics[0], physics[1], physics[2], b, s);
-    write_step(state, r)
+    let moved = ground::step(sheet, physics[0], physics[1], physics[2], &b, &s);
+    write_step(state, &moved);
+    refusal::answer(&moved)
 }
 
-// The new state; on a number nothing.
-fn write_impact(state: &mut [f64], r: ImpactOut) -> u32
+// The new state; on a refusal nothing.
+fn write_impact(state: &mut [f64], out: &Result<BallState, Refusal>)
     requires { length state.old ≡ 10 }
-    ensures { door result state.new ≡ struck r state.old }
+    ensures { (given : BallState) → door (answer_by out.now) state.new ≡ struck (struck_by given out.now) state.old }
 {
-    let answer = r.answer;
-    if answer != 0 {
-        return answer;
+    match out {
+        Ok(after) => fields::put_state(state, 0, *after),
+        Err(_) => {}
     }
-    let s = r.state;
-    let pos = s.pos;
-    let vel = s.vel;
-    let spin = s.spin;
-    let rec = [
-        s.time, pos.x, pos.y, pos.z, vel.x, vel.y, vel.z, spin.x, spin.y, spin.z,
-    ];
-    fields::put(state, 0, &rec);
-    0
 }
 
 #[unsafe(no_mangle)]
@@ -228,8 +272,20 @@ pub extern "C" fn dimple_impact(sheet: &[u8], ball: &[f64], state: &mut [f64]) -
     }
     let s = fields::state_at(state, 0);
     let b = fields::ball_at(ball, 0);
-    let r = ground::impact(sheet, b, s);
-    write_impact(state, r)
+    let out = ground::impact(sheet, &b, &s);
+    write_impact(state, &out);
+    refusal::answer(&out)
+}
+
+// The height, +0 where there is none.
+fn write_height(height: &mut [f64], found: &Result<f64, Refusal>)
+    requires { length height.old ≡ 1 }
+    ensures { height.new ≡ written height.old 0 ((height_by found.now).height ∷ []) }
+{
+    match found {
+        Ok(y) => fields::put(height, 0, &[*y]),
+        Err(_) => fields::put(height, 0, &[0.0]),
+    }
 }
 
 #[unsafe(no_mangle)]
@@ -240,42 +296,70 @@ pub extern "C" fn dimple_height(sheet: &[u8], x: f64, z: f64, height: &mut [f64]
         return 100;
     }
     let h = course::height(sheet, x, z);
-    let rec = [h.height];
-    fields::put(height, 0, &rec);
-    h.answer
+    write_height(height, &h);
+    refusal::answer(&h)
 }
 
 // ---- the board, as doubles
+
+// A new board; where the pin is refused, an empty one with its pin at 0.
+fn new_in(pin_x: f64, pin_z: f64, board: &mut [f64]) -> Result<(), Refusal>
+    ensures { door (answer_by result) board.new ≡ new_door_of pin_x pin_z board.old }
+{
+    let Some(list) = board.as_mut_array() else {
+        return Err(Refusal::LentLength);
+    };
+    match Board::new(pin_x, pin_z) {
+        Ok(b) => {
+            layout::write_board(list, &b);
+            Ok(())
+        }
+        Err(refusal) => {
+            layout::write_board(list, &Board::empty(0.0, 0.0));
+            Err(refusal)
+        }
+    }
+}
 
 #[unsafe(no_mangle)]
 pub extern "C" fn dimple_board_new(pin_x: f64, pin_z: f64, board: &mut [f64]) -> u32
     ensures { door result board.new ≡ new_door_of pin_x pin_z board.old }
 {
-    if board.len() != layout::BOARD_LENGTH {
-        return 100;
-    }
-    let e = Board::new(pin_x, pin_z);
-    let b = e.board;
-    layout::write_board(board, b);
-    e.answer
+    refusal::answer(&new_in(pin_x, pin_z, board))
 }
 
-// The new board; on a number nothing.
-fn write_entered(board: &mut [f64], e: Entered) -> u32
-    requires { length board.old ≡ board_length }
-    ensures { door result board.new ≡ entered e board.old }
-{
-    let answer = e.answer;
-    if answer != 0 {
-        return answer;
-    }
-    let b = e.board;
-    layout::write_board(board, b);
-    0
-}
-
-// One entry more on a board that the doubles are; 102 for a number that is no termination's.
+// One entry more on a board that the doubles are; NoTermination for a number that is no termination's. Where it is refused, nothing is written.
 fn enter_sent(
+    board: &mut [f64; layout::BOARD_LENGTH],
+    bay: u32,
+    shot: u32,
+    termination: u32,
+    contacts: u32,
+    x: f64,
+    z: f64,
+) -> Result<(), Refusal>
+    ensures { door (answer_by result) board.new
+        ≡ entered
+        (sent_of (board_at board.old)
+        (record { bay = bay; shot = shot; termination = termination; contacts = contacts; x = x; z = z }))
+        board.old }
+{
+    let termination = layout::end_of(termination)?;
+    let mut b = layout::board_at(board);
+    b.enter(Entry {
+        shot,
+        bay,
+        termination,
+        contacts,
+        x,
+        z,
+    })?;
+    layout::write_board(board, &b);
+    Ok(())
+}
+
+// Tests the length and the doubles, and enters.
+fn enter_in(
     board: &mut [f64],
     bay: u32,
     shot: u32,
@@ -283,27 +367,17 @@ fn enter_sent(
     contacts: u32,
     x: f64,
     z: f64,
-) -> u32
-    requires { length board.old ≡ board_length }
-    ensures { door result board.new
-        ≡ entered
-        (sent_of (board_at board.old)
-        (record { bay = bay; shot = shot; termination = termination; contacts = contacts; x = x; z = z }))
-        board.old }
+) -> Result<(), Refusal>
+    ensures { door (answer_by result) board.new
+        ≡ enter_door_of board.old (record { bay = bay; shot = shot; termination = termination; contacts = contacts; x = x; z = z }) }
 {
-    if (1 <= termination) & (termination <= 3) {
-        let b = layout::board_at(board);
-        let e = Entry {
-            shot,
-            bay,
-            termination: layout::termination_of(termination),
-            contacts,
-            x,
-            z,
-        };
-        return write_entered(board, b.enter(e));
+    let Some(list) = board.as_mut_array() else {
+        return Err(Refusal::LentLength);
+    };
+    if !layout::board_ok(list) {
+        return Err(Refusal::NotHeld);
     }
-    102
+    enter_sent(list, bay, shot, termination, contacts, x, z)
 }
 
 #[unsafe(no_mangle)]
@@ -319,33 +393,39 @@ pub extern "C" fn dimple_board_enter(
     ensures { door result board.new
         ≡ enter_door_of board.old (record { bay = bay; shot = shot; termination = termination; contacts = contacts; x = x; z = z }) }
 {
-    if board.len() != layout::BOARD_LENGTH {
-        return 100;
+    refusal::answer(&enter_in(board, bay, shot, termination, contacts, x, z))
+}
+
+// The shot's number at the place; 0 where there is none.
+fn place_in(board: &[f64], place: u64, shot: &mut [f64]) -> Result<(), Refusal>
+    ensures { door (answer_by result) shot.new ≡ place_door_of board.now place shot.old }
+{
+    let Some(list) = board.as_array() else {
+        return Err(Refusal::LentLength);
+    };
+    if shot.len() != 1 {
+        return Err(Refusal::LentLength);
     }
-    if layout::board_ok(board) {
-        return enter_sent(board, bay, shot, termination, contacts, x, z);
+    if !layout::board_ok(list) {
+        return Err(Refusal::NotHeld);
     }
-    101
+    match layout::board_at(list).place(place as usize) {
+        Ok(number) => {
+            fields::put(shot, 0, &[fields::whole(number as u64)]);
+            Ok(())
+        }
+        Err(refusal) => {
+            fields::put(shot, 0, &[fields::whole(0)]);
+            Err(refusal)
+        }
+    }
 }
 
 #[unsafe(no_mangle)]
 pub extern "C" fn dimple_board_place(board: &[f64], place: u64, shot: &mut [f64]) -> u32
     ensures { door result shot.new ≡ place_door_of board.now place shot.old }
 {
-    if board.len() != layout::BOARD_LENGTH {
-        return 100;
-    }
-    if shot.len() != 1 {
-        return 100;
-    }
-    if layout::board_ok(board) {
-        let b = layout::board_at(board);
-        let p = b.place(place as usize);
-        let rec = [fields::whole(p.shot as u64)];
-        fields::put(shot, 0, &rec);
-        return p.answer;
-    }
-    101
+    refusal::answer(&place_in(board, place, shot))
 }
 
 // ---- the shelf, as 368 doubles: 16 places of a name's length, its 12 bytes and a state
@@ -354,26 +434,26 @@ pub extern "C" fn dimple_board_place(board: &[f64], place: u64, shot: &mut [f64]
 pub extern "C" fn dimple_shelf_new(shelf: &mut [f64]) -> u32
     ensures { answered result shelf.new ≡ shelf_new_door_of shelf.old }
 {
-    shelf_layout::new_in(shelf)
+    refusal::answer(&shelf_layout::new_in(shelf))
 }
 
 #[unsafe(no_mangle)]
 pub extern "C" fn dimple_shelf_save(shelf: &mut [f64], name: &[u8], state: &[f64]) -> u32
     ensures { answered result shelf.new ≡ shelf_save_door_of shelf.old name.now state.now }
 {
-    shelf_layout::save_in(shelf, name, state)
+    refusal::answer(&shelf_layout::save_in(shelf, name, state))
 }
 
 #[unsafe(no_mangle)]
 pub extern "C" fn dimple_shelf_return(shelf: &[f64], name: &[u8], state: &mut [f64]) -> u32
     ensures { answered result state.new ≡ shelf_return_door_of shelf.now name.now state.old }
 {
-    shelf_layout::return_in(shelf, name, state)
+    refusal::answer(&shelf_layout::return_in(shelf, name, state))
 }
 
 #[unsafe(no_mangle)]
 pub extern "C" fn dimple_shelf_drop(shelf: &mut [f64], name: &[u8]) -> u32
     ensures { answered result shelf.new ≡ shelf_drop_door_of shelf.old name.now }
 {
-    shelf_layout::drop_in(shelf, name)
+    refusal::answer(&shelf_layout::drop_in(shelf, name))
 }

@@ -6,8 +6,9 @@ use mathlib.Core.List.{List, ◌++◌}
 use lib.Ieee.{Float}
 use lib.ListN.{length, drop}
 use borrow.Author.Tests.{eq-eqb, ne_eqb, le-leb, lt-leb}
-use Rattle.ground.specs.Settle.{Result, result_of}
-use Rattle.ground.specs.declared.Settled.{Settled}
+use Rattle.std.specs.Prelude.{Option}
+use Rattle.state.specs.declared.Termination.{Termination}
+use Rattle.ground.specs.Settle.{Result, Settled, result_of}
 use Rattle.input.specs.Input.{settle_input_of}
 use Rattle.text.specs.Text.{Fills}
 use Rattle.text.specs.Laws.{fills}
@@ -39,12 +40,14 @@ module _ (input : List ℕ) (cs ps : List Float) {s : Settled} {cs' ps' : List F
     unfolding printed_of
     short l d = ap (λ (t : Settled). carded (result_of t cs' ps') page) d ∙ sym (finished ∙ rw (lt-leb (60 * (1 + s.contacts)) (length page) l))
 
-    pub printed : {m n : List ℕ} {a r : ℕ} → 60 * (1 + s.contacts) ≤ length page → Fills 60 page 0 (heading_line s.termination) a m
+    pub printed : {t : Option Termination} {m n : List ℕ} {a r : ℕ} → s.termination ≡ t → 60 * (1 + s.contacts) ≤ length page
+        → Fills 60 page 0 (heading_line t) a m
         → Fills (60 * s.contacts) m a (lines_of cs' s.contacts) r n → carded (result_of s cs' ps') n ≡ card_of input cs ps page
     unfolding printed_of text_of
-    printed {n = n} {r = r} l x y =
+    printed {m = m} {n} {a} {r} q l x y =
+        let w : Fills 60 page 0 (heading_line s.termination) a m = subst (λ (k : Option Termination). Fills 60 page 0 (heading_line k) a m) (sym q) x in
         let t = heading_line s.termination ++ lines_of cs' s.contacts in
-        let z : Fills (60 + 60 * s.contacts) page 0 t r n = fills x y in
+        let z : Fills (60 + 60 * s.contacts) page 0 t r n = fills w y in
         let i : r ≡ length t = let j = z.adds.next in omega arith in
         ap (carded (result_of s cs' ps')) (z.adds.same ∙ ap (λ (k : ℕ). t ++ drop k page) i)
         ∙ sym (finished ∙ rw (le-leb (60 * (1 + s.contacts)) (length page) l))

@@ -5,8 +5,12 @@ use Rattle.std.specs.Float.Ieee.{lt}
 use Rattle.tally.specs.Language.{contact_width}
 use Rattle.number.specs.Ops.{dec}
 use Rattle.state.specs.declared.Termination.{Termination}
-use Rattle.ground.specs.Settle.{Result, result_of}
-use Rattle.ground.specs.declared.Settled.{Settled}
+use Rattle.std.specs.Prelude.{Option}
+use Rattle.ground.specs.Settle.{Result, Settled, result_of, told_by}
+use Rattle.std.specs.Prelude.{Result as RustResult, Ok, Err}
+use Rattle.refusal.specs.declared.Refusal.{Refusal}
+use Rattle.refusal.specs.Refusal.{number_of}
+use Rattle.card.specs.declared.ShotCard.{ShotCard}
 use Rattle.fields.specs.Fields.{double_at}
 use Rattle.input.specs.Input.{settle_input_of}
 use Rattle.rounding.specs.Rounded.{rounded_of}
@@ -25,7 +29,7 @@ abbrev pub line_end : List ℕ
 line_end = 10 ∷ []
 
 -- "The heading is the termination word, then spaces"
-unfoldable pub heading_line : Termination → List ℕ
+unfoldable pub heading_line : Option Termination → List ℕ
 heading_line t = (word_of t ++ blanks (59 - length (word_of t))) ++ line_end
 
 -- "x, y, z in centimetres (14 each), all right-aligned with spaces": the three doubles after index o of a contact list
@@ -62,6 +66,14 @@ too_short s = record {
   rest = s.rest;
   rect = s.rect;
 }
+
+-- the code's result: the settle's, with the refusal's number where the page is too short
+abbrev pub printed_by : RustResult Unit Refusal → Settled → Settled
+printed_by (Ok tt) s = s
+printed_by (Err r) s = record (too_short s) { answer = number_of r }
+
+abbrev pub card_by : ShotCard → Settled
+card_by c = printed_by c.printed (told_by c.settled)
 
 -- all that a call gives: the result, both lists, the page
 pub record Carded : Type 0 where

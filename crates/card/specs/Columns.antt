@@ -7,7 +7,8 @@ use Rattle.tally.specs.Language.{contact_width}
 use Rattle.number.specs.Ops.{dec}
 use Rattle.number.specs.Number.{about_of}
 use Rattle.state.specs.declared.Termination.{Termination}
-use Rattle.state.specs.declared.Termination.TheVariants.{Nothing, Rest, MaxTime, MaxImpacts}
+use Rattle.state.specs.declared.Termination.TheVariants.{Rest, MaxTime, MaxImpacts}
+use Rattle.std.specs.Prelude.{Option, Some, None}
 use Rattle.fields.specs.Fields.{double_at}
 use Rattle.rounding.specs.Rounded.{rounded_of, at_most}
 use Rattle.text.specs.Text.{blanks, decimal_of, signed_of, right_of, word_of}
@@ -60,12 +61,12 @@ right_long : (w : ℕ) (t : List ℕ) → length t ≤ w → length (right_of w 
 unfolding right_of
 right_long w t h = omega (arith, length-append (blanks (w - length t)) t, length-replicate {A = ℕ} (w - length t) 32)
 
-pub heading_60 : (t : Termination) → length (heading_line t) ≡ 60
+pub heading_60 : (t : Option Termination) → length (heading_line t) ≡ 60
 unfolding heading_line word_of
-heading_60 Nothing = refl
-heading_60 Rest = refl
-heading_60 MaxTime = refl
-heading_60 MaxImpacts = refl
+heading_60 None = refl
+heading_60 (Some Rest) = refl
+heading_60 (Some MaxTime) = refl
+heading_60 (Some MaxImpacts) = refl
 
 place_42 : (cs : List Float) (o : ℕ) → Place cs o → length (place_at cs o) ≡ 42
 unfolding place_at

@@ -2,12 +2,14 @@
 #![tactic(auto)]
 
 ghost use Rattle.std.specs.Prelude.{◌≡◌, ◌+◌, ◌*◌, ◌≤◌, length};
-ghost use Rattle.ground.specs.Settle.{result_of};
+ghost use Rattle.ground.specs.Settle.{result_of, told_by};
+ghost use Rattle.input.specs.Input.{settle_input_of};
 ghost use Rattle.text.specs.Text.{Fills, right_of};
-ghost use Rattle.card.specs.Card.{value_of, place_at, heading_line, contact_at, lines_of, too_short, carded, card_of};
+ghost use Rattle.card.specs.Card.{value_of, place_at, heading_line, contact_at, lines_of, carded, card_by, card_of};
 ghost use Rattle.card.specs.Inner.{Value, Place, Spot, Printable};
 
 use ground::Settled;
+use refusal::Refusal;
 use state::Termination;
 
 // k times x, rounded, at the right end of a column of w bytes.
@@ -47,16 +49,14 @@ fn put_contacts(page: &mut [u8], at: usize, contacts: &[f64], n: usize) -> usize
     ensures { Fills (60 * n) page.old at (lines_of contacts.now n) result page.new }
 {
     let mut here = at;
-    let mut i = 0;
-    while i < n {
+    for i in 0..n {
         here = put_contact(page, here, contacts, i);
-        i += 1;
     }
     here
 }
 
 // The termination's word, then spaces.
-fn put_heading(page: &mut [u8], t: Termination) -> usize
+fn put_heading(page: &mut [u8], t: Option<Termination>) -> usize
     requires { 60 ≤ length page.old }
     ensures { Fills 60 page.old 0 (heading_line t) result page.new }
 {
@@ -65,41 +65,37 @@ fn put_heading(page: &mut [u8], t: Termination) -> usize
     text::put(page, j, b"\n")
 }
 
-// The run's result with the number 30 in place of its own.
-fn page_too_short(s: Settled) -> Settled
-    ensures { result ≡ too_short s }
-{
-    let termination = s.termination;
-    let rest = s.rest;
-    let rect = s.rect;
-    Settled {
-        answer: 30,
-        termination,
-        contacts: s.contacts,
-        points: s.points,
-        steps: s.steps,
-        evaluations: s.evaluations,
-        rest,
-        rect,
-    }
+// A settle, and whether the page had room for its card. Of a run that did not finish nothing is printed.
+#[derive(Clone, Copy)]
+pub struct ShotCard {
+    pub settled: Settled,
+    pub printed: Result<(), Refusal>,
 }
 
-// Settles the landing that an input holds, and prints a finished run. 30 where the page is too short for it; the other answers are those of
-// settle_input.
-pub fn card(input: &[u8], contacts: &mut [f64], points: &mut [f64], page: &mut [u8]) -> Settled
-    ensures { carded (result_of result contacts.new points.new) page.new
+// Settles the landing that an input holds, and prints a finished run: 30 where the page is too short for it.
+pub fn card(input: &[u8], contacts: &mut [f64], points: &mut [f64], page: &mut [u8]) -> ShotCard
+    ensures settled { told_by result.settled ≡ (settle_input_of input.now contacts.old points.old).settled }
+    ensures card { carded (result_of (card_by result) contacts.new points.new) page.new
         ≡ card_of input.now contacts.old points.old page.old }
 {
-    let s = input::settle_input(input, false, contacts, points);
-    if s.answer != 0 {
-        return s;
-    }
-    let n = s.contacts;
+    let settled = input::settle_input(input, false, contacts, points);
+    let Ok(termination) = settled.outcome else {
+        return ShotCard {
+            settled,
+            printed: Ok(()),
+        };
+    };
+    let n = settled.contacts;
     if page.len() < 60 * (1 + n) {
-        return page_too_short(s);
+        return ShotCard {
+            settled,
+            printed: Err(Refusal::PageLength),
+        };
     }
-    let t = s.termination;
-    let at = put_heading(page, t);
+    let at = put_heading(page, Some(termination));
     put_contacts(page, at, contacts, n);
-    s
+    ShotCard {
+        settled,
+        printed: Ok(()),
+    }
 }

@@ -18,30 +18,19 @@ pub struct Locked {
     pub spin: DVec3,
 }
 
-// True only if (x, y, z) is (0, 1, 0), with zeros of either sign. By bits: 9223372036854775808 is 2^63, a sign's place, and 4607182418800017408 the
-// pattern of 1.
+// A sign's place among the bits of a double, and the bits of 1.
+const SIGN: u64 = 9223372036854775808;
+
+const ONE: u64 = 4607182418800017408;
+
+// True only if (x, y, z) is (0, 1, 0), with zeros of either sign.
 fn is_level(x: f64, y: f64, z: f64) -> bool
     ensures { result ≡ true → vnormalize (vec x y z) ≡ vec x y z }
 {
-    if x != x {
+    if x.is_nan() | y.is_nan() | z.is_nan() {
         return false;
     }
-    if y != y {
-        return false;
-    }
-    if z != z {
-        return false;
-    }
-    let a = f64::to_bits(x);
-    let b = f64::to_bits(y);
-    let c = f64::to_bits(z);
-    if a % 9223372036854775808 != 0 {
-        return false;
-    }
-    if c % 9223372036854775808 != 0 {
-        return false;
-    }
-    b == 4607182418800017408
+    (x.to_bits() % SIGN == 0) & (y.to_bits() == ONE) & (z.to_bits() % SIGN == 0)
 }
 
 // The unit vector along a sample's normal. That of level ground is one already.
@@ -55,43 +44,48 @@ pub fn unit(normal: DVec3) -> DVec3
 }
 
 // The part of v along the plane with unit normal n.
+#[tactic(auto, unfolding(crate::specs::Contact::tangent))]
 fn along(v: DVec3, n: DVec3) -> DVec3
     ensures { result ≡ tangent v n }
 {
-    v.sub(n.scale(v.dot(n)))
+    v - n * v.dot(n)
 }
 
 // Contact-point slip velocity of a ball on ground with unit normal n.
+#[tactic(auto, unfolding(crate::specs::Contact::slip_of))]
 pub fn slip(vel: DVec3, spin: DVec3, n: DVec3, radius: f64) -> DVec3
     ensures { result ≡ slip_of vel spin n radius }
 {
-    along(vel, n).add(spin.cross(n.scale(-radius)))
+    along(vel, n) + spin.cross(n * -radius)
 }
 
 // Removes the contact slip with the friction impulse that brings the ball to rolling.
+#[tactic(auto, using(number::proofs::Steps::steps), unfolding(crate::specs::Contact::locked_of))]
 pub fn lock_rolling(vel: DVec3, spin: DVec3, n: DVec3, radius: f64, k: f64) -> Locked
     ensures { result ≡ locked_of vel spin n radius k }
 {
     let u = slip(vel, spin, n, radius);
     Locked {
-        vel: vel.sub(u.scale(k / (1.0 + k))),
-        spin: spin.add(n.cross(u).div((1.0 + k) * radius)),
+        vel: vel - u * (k / (1.0 + k)),
+        spin: spin + n.cross(u) / ((1.0 + k) * radius),
     }
 }
 
 // The spin `end`, whose part about n does not cross zero from that of `start`.
+#[tactic(auto, using(number::proofs::Steps::steps), unfolding(crate::specs::Contact::saturated))]
 pub fn saturate_pivot(start: DVec3, end: DVec3, n: DVec3) -> DVec3
     ensures { result ≡ saturated start end n }
 {
     let w0 = start.dot(n);
     let w1 = end.dot(n);
     if (w0 == 0.0) | (number::signum(w0) != number::signum(w1)) {
-        return end.sub(n.scale(w1));
+        return end - n * w1;
     }
     end
 }
 
 // Gravity along ground with unit normal n.
+#[tactic(auto, using(number::proofs::Steps::steps), unfolding(crate::specs::Contact::tangential_gravity))]
 pub fn tangential_gravity(n: DVec3) -> DVec3
     ensures { result ≡ tangential_gravity n }
 {
@@ -99,21 +93,24 @@ pub fn tangential_gravity(n: DVec3) -> DVec3
 }
 
 // The spin of a ball that rolls on, with its spin about the normal kept.
+#[tactic(auto, unfolding(crate::specs::Contact::relocked))]
 fn relock(spin: DVec3, vel: DVec3, n: DVec3, prev_normal: DVec3, radius: f64) -> DVec3
     ensures { result ≡ relocked spin vel n prev_normal radius }
 {
     let w_n = spin.dot(prev_normal.normalize());
-    n.cross(vel).div(radius).add(n.scale(w_n))
+    n.cross(vel) / radius + n * w_n
 }
 
 // Whether a ball at the height `y` is on the ground already, and the ground is as it was.
+#[tactic(auto, unfolding(vector::specs::Vec::same_vec))]
 pub fn is_onto(y: f64, height: f64, normal: DVec3, prev_normal: DVec3) -> bool
     ensures { result ≡ (same_vec normal prev_normal && eq y height) }
 {
-    normal.same(prev_normal) & (y == height)
+    (normal == prev_normal) & (y == height)
 }
 
 // Puts a ball that has stepped across the ground back onto it.
+#[tactic(auto, using(number::proofs::Steps::steps), unfolding(crate::specs::Contact::onto_of))]
 pub fn onto_surface(
     state: BallState,
     at: GroundSample,
@@ -123,36 +120,29 @@ pub fn onto_surface(
 ) -> BallState
     ensures { result ≡ onto_of state at prev_normal rolling radius }
 {
-    let normal = at.normal;
-    if normal.same(prev_normal) & (state.pos.y == at.height) {
+    if is_onto(state.pos.y, at.height, at.normal, prev_normal) {
         return state;
     }
-    let n = normal.normalize();
-    let pos = DVec3 {
-        x: state.pos.x,
-        y: at.height,
-        z: state.pos.z,
-    };
-    let v = state.vel;
-    let vel = along(v, n);
-    let spin = state.spin;
-    if rolling {
-        return BallState {
-            time: state.time,
-            pos,
-            vel,
-            spin: relock(spin, vel, n, prev_normal, radius),
-        };
-    }
+    let n = at.normal.normalize();
+    let vel = along(state.vel, n);
     BallState {
         time: state.time,
-        pos,
+        pos: DVec3 {
+            x: state.pos.x,
+            y: at.height,
+            z: state.pos.z,
+        },
         vel,
-        spin,
+        spin: if rolling {
+            relock(state.spin, vel, n, prev_normal, radius)
+        } else {
+            state.spin
+        },
     }
 }
 
 // Whether rolling resistance holds a ball at rest on ground with unit normal n.
+#[tactic(auto, using(number::proofs::Steps::steps), unfolding(crate::specs::Contact::holds_at_rest))]
 pub fn holds_at_rest(n: DVec3, surface: Surface) -> bool
     ensures { result ≡ holds_at_rest n surface }
 {
@@ -160,37 +150,36 @@ pub fn holds_at_rest(n: DVec3, surface: Surface) -> bool
 }
 
 // Whether a ball at rest at this sample stays there.
+#[tactic(auto, unfolding(crate::specs::Contact::sample_holds))]
 pub fn sample_holds(at: GroundSample) -> bool
     ensures { result ≡ sample_holds at }
 {
-    let normal = at.normal;
-    let surface = at.surface;
-    holds_at_rest(unit(normal), surface)
+    holds_at_rest(unit(at.normal), at.surface)
 }
 
+#[tactic(auto, using(number::proofs::Steps::steps), unfolding(crate::specs::Contact::returned_by))]
 fn returned_by(rebound: BallState, next: BallState) -> f64
     ensures { result ≡ returned_by rebound next }
 {
-    let after = next.vel;
-    let before = rebound.vel;
-    0.5 * (after.length_squared() - before.length_squared())
+    0.5 * (next.vel.length_squared() - rebound.vel.length_squared())
 }
 
+#[tactic(auto, unfolding(crate::specs::Contact::spin_inertia))]
 fn spin_inertia(ball: BallModel) -> f64
     ensures { result ≡ spin_inertia ball }
 {
     ball.inertia_factor * ball.radius_m() * ball.radius_m()
 }
 
+#[tactic(auto, using(number::proofs::Steps::steps), unfolding(crate::specs::Contact::energy_of))]
 fn energy(inertia: f64, s: BallState) -> f64
     ensures { result ≡ energy_of inertia s }
 {
-    let v = s.vel;
-    let w = s.spin;
-    0.5 * v.length_squared() + 0.5 * inertia * w.length_squared()
+    0.5 * s.vel.length_squared() + 0.5 * inertia * s.spin.length_squared()
 }
 
 // Whether the hops that follow a rebound off ground with unit normal n die out.
+#[tactic(auto, using(number::proofs::Steps::steps), unfolding(crate::specs::Contact::hops_die_out, vector::specs::Vec::same_vec))]
 pub fn hops_die_out(
     arrival: BallState,
     rebound: BallState,
@@ -201,7 +190,7 @@ pub fn hops_die_out(
 ) -> bool
     ensures { result ≡ hops_die_out arrival rebound next n ball min_hop_height }
 {
-    if tangential_gravity(n).same(DVec3::ZERO) {
+    if tangential_gravity(n) == DVec3::ZERO {
         return true;
     }
     let returned = returned_by(rebound, next);

@@ -1,256 +1,156 @@
 // The course: what a look at a spot finds on an accepted sheet, looks that widen a rectangle, and the height at a spot (01, "Course sheet").
 #![tactic(auto)]
 
-ghost use Rattle.std.specs.Prelude.{◌≡◌, true, not, ℕ, ◌+◌, ◌*◌, ◌≤◌, ◌<◌, length, T};
-ghost use Rattle.std.specs.Float.{binary64};
-ghost use Rattle.std.specs.Float.Ieee.{nan_bits};
+ghost use Rattle.std.specs.Prelude.{◌≡◌, ◌+◌, ◌<◌, ◌≤◌};
+ghost use Rattle.refusal.specs.Refusal.{answer_by};
 ghost use Rattle.look.specs.Tree.{exec, did, look_tree};
-ghost use Rattle.course.specs.Index.{Ready};
-ghost use Rattle.course.specs.Sheet.{field, real, surfaces, patches, surface_ok, patch_ok, answer_of, first, covers, restitution_of, law_of, surface_of, patch_sample, plain_sample, course_of, height_of};
+ghost use Rattle.course.specs.Index.{FindsPatch};
+ghost use Rattle.course.specs.Sheet.{surfaces, patches, patch_sample, plain_sample, course_of, height_by, height_of, Accepted};
 
-pub use index::{INDEX_WORDS, make_index};
-use look::{Look, LookOut, Rect};
-pub use sheet::check_sheet;
-use surface::{GroundSample, Restitution, RollLaw, Surface};
+use index::INDEX_WORDS;
+use look::Rect;
+use refusal::Refusal;
+use sheet::Sheet;
+use std::marker::Model;
+use surface::GroundSample;
 use vector::DVec3;
 
-fn restitution_of(kind: u64, e: f64) -> Restitution
-    ensures { result ≡ restitution_of kind e }
-{
-    if kind == 0 {
-        Restitution::Constant(e)
-    } else {
-        Restitution::Penner2002
-    }
-}
-
-fn law_of(law: u64, v_ref: f64) -> RollLaw
-    ensures { result ≡ law_of law v_ref }
-{
-    if law == 0 {
-        RollLaw::Constant
-    } else if law == 1 {
-        RollLaw::Quadratic { v_ref }
-    } else {
-        RollLaw::Exponential { v_ref }
-    }
-}
-
-// A field that is known to be no NaN.
-fn number_at(s: &[u8], i: usize, j: usize) -> f64
-    requires { (80 + 64 * i ≤ length s.now) × ((j < 8) × T (not (nan_bits binary64 (field s.now i j)))) }
-    ensures { result ≡ real s.now i j }
-{
-    f64::from_bits(sheet::whole(s, i, j))
-}
-
-// Surface i, as held in memory. What passed its test is no NaN.
-fn surface_at(sheet: &[u8], i: usize) -> Surface
-    requires { (80 + 64 * i ≤ length sheet.now) × (surface_ok sheet.now i ≡ true) }
-    ensures { result ≡ surface_of sheet.now i }
-{
-    let restitution = restitution_of(sheet::whole(sheet, i, 0), sheet::double(sheet, i, 1));
-    let roll_law = law_of(sheet::whole(sheet, i, 4), sheet::double(sheet, i, 5));
-    Surface {
-        restitution,
-        mu_slide: number_at(sheet, i, 2),
-        mu_roll: number_at(sheet, i, 3),
-        roll_law,
-        compliance: number_at(sheet, i, 6),
-        pivot: number_at(sheet, i, 7),
-    }
-}
+// The words of an index.
+pub type Words = [u64; INDEX_WORDS];
 
 // What the patch that is record i gives at the spot.
-fn patch_sample(sheet: &[u8], i: usize, x: f64, z: f64) -> GroundSample
-    requires i_in_bounds { (80 + 64 * i ≤ length sheet.now) × (80 + 64 * field sheet.now i 7 ≤ length sheet.now) }
-    requires i_value { (patch_ok sheet.now i ≡ true) × (surface_ok sheet.now (field sheet.now i 7) ≡ true) }
+#[tactic(auto, unfolding(sheet::specs::Sheet::patch_sample))]
+fn patch_sample(sheet: &Sheet, i: usize, x: f64, z: f64) -> GroundSample
+    requires { (surfaces sheet.now ≤ i) × (i < surfaces sheet.now + patches sheet.now) }
     ensures { result ≡ patch_sample sheet.now x z i }
 {
-    let number = sheet::whole(sheet, i, 7);
-    let surface = surface_at(sheet, number as usize);
-    let a = number_at(sheet, i, 5);
-    let b = number_at(sheet, i, 6);
-    let normal = DVec3 {
-        x: -a,
-        y: 1.0,
-        z: -b,
-    };
+    let number = sheet.patch_surface(i);
+    let a = sheet.patch_number(i, 5);
+    let b = sheet.patch_number(i, 6);
     GroundSample {
-        height: (number_at(sheet, i, 4) + a * x) + b * z,
-        normal,
-        surface,
-        number,
+        height: (sheet.patch_number(i, 4) + a * x) + b * z,
+        normal: DVec3 {
+            x: -a,
+            y: 1.0,
+            z: -b,
+        },
+        surface: sheet.surface(number),
+        number: number as u64,
     }
 }
 
 // What is where no patch is.
-fn plain_sample(sheet: &[u8]) -> GroundSample
-    requires { (80 ≤ length sheet.now) × (surface_ok sheet.now 0 ≡ true) }
+#[tactic(auto, unfolding(sheet::specs::Sheet::plain_sample))]
+fn plain_sample(sheet: &Sheet) -> GroundSample
+    requires { 0 < surfaces sheet.now }
     ensures { result ≡ plain_sample sheet.now }
 {
-    let surface = surface_at(sheet, 0);
-    let normal = DVec3 {
-        x: 0.0,
-        y: 1.0,
-        z: 0.0,
-    };
     GroundSample {
         height: 0.0,
-        normal,
-        surface,
+        normal: DVec3 {
+            x: 0.0,
+            y: 1.0,
+            z: 0.0,
+        },
+        surface: sheet.surface(0),
         number: 0,
     }
 }
 
-// What the course gives at the spot, where i is the first patch with the spot in it, or past the last.
-fn sample_of(sheet: &[u8], count: usize, n: usize, i: usize, x: f64, z: f64) -> GroundSample
-    requires sheet_value { (answer_of sheet.now ≡ 0) × ((count ≡ surfaces sheet.now) × (n ≡ patches sheet.now)) }
-    requires i_value { i ≡ first (covers sheet.now x z) n count }
+// What the course gives at the spot, where the first patch with the spot in it is known.
+#[tactic(auto, unfolding(sheet::specs::Sheet::course_of))]
+fn sample_of(sheet: &Sheet, found: Option<usize>, x: f64, z: f64) -> GroundSample
+    requires { FindsPatch sheet.now x z found }
     ensures { result ≡ course_of sheet.now x z }
 {
-    if i < count + n {
-        patch_sample(sheet, i, x, z)
-    } else {
-        plain_sample(sheet)
+    let _count = sheet.surfaces();
+    match found {
+        Some(i) => patch_sample(sheet, i, x, z),
+        None => plain_sample(sheet),
     }
 }
 
-// The first patch with the spot in it, or past the last: by the index, or by trying each.
-fn first_at(
-    sheet: &[u8],
-    index: &[u64],
-    indexed: bool,
-    count: usize,
-    n: usize,
-    x: f64,
-    z: f64,
-) -> usize
-    requires sheet_value { (answer_of sheet.now ≡ 0) × ((count ≡ surfaces sheet.now) × (n ≡ patches sheet.now)) }
-    requires ready { indexed ≡ true → Ready sheet.now index.now }
-    ensures { result ≡ first (covers sheet.now x z) n count }
-{
-    if indexed {
-        index::find(sheet, index, count, n, x, z)
-    } else {
-        index::find_patch(sheet, count, n, x, z)
-    }
+// An accepted sheet, and its index if it has one: without it a look tries each patch.
+#[derive(Drop)]
+pub struct Course<'a> {
+    sheet: Sheet<'a>,
+    index: Option<&'a Words>,
 }
 
-// A look: the spot is tested, and one that passes widens the rectangle. All of it stands in one function, so that the sample is written once, where it
-// is returned to.
-fn look_by(sheet: &[u8], index: &[u64], indexed: bool, rect: Rect, x: f64, z: f64) -> LookOut
-    requires sheet_value { answer_of sheet.now ≡ 0 }
-    requires ready { indexed ≡ true → Ready sheet.now index.now }
-    ensures { did result.what result.rect ≡ exec (course_of sheet.now) rect (look_tree x z) }
-{
-    if look::spot_ok(x, z) {
-        let count = octets::half(sheet, 0) as usize;
-        let n = octets::half(sheet, 8) as usize;
-        let i = first_at(sheet, index, indexed, count, n, x, z);
-        let s = sample_of(sheet, count, n, i, x, z);
-        let q = look::widen_to(rect, x, z);
-        LookOut {
-            what: Look::Saw(s),
-            rect: q,
-        }
-    } else {
-        LookOut {
-            what: Look::Off,
-            rect,
+// Callers see the sheet's bytes.
+impl<'a> Model for Course<'a> {
+    ghost use Rattle.std.specs.Prelude.{ℕ, List};
+    ghost use Rattle.std.specs.Option.{ForSome};
+    ghost use Rattle.course.specs.Index.{Ready};
+
+    ghost Value = { List ℕ };
+
+    ghost view = { λ c. c.sheet };
+
+    ghost invariant = { λ c. ForSome c.index (λ i. Ready c.sheet i.now) };
+}
+
+impl<'a> Course<'a> {
+    // With an index, made in the given words.
+    pub fn indexed(bytes: &'a [u8], words: &'a mut Words) -> Course<'a>
+        requires { Accepted bytes.now }
+        ensures { result ≡ bytes.now }
+    {
+        let sheet = Sheet::accepted(bytes);
+        index::make_index(&sheet, words);
+        Course {
+            sheet,
+            index: Some(words),
         }
     }
-}
 
-// A look by the index. The rectangle is handed on number by number: read as a whole just after its parts are written, it would have to wait for them.
-pub fn look_at(sheet: &[u8], index: &[u64], rect: Rect, x: f64, z: f64) -> LookOut
-    requires { Ready sheet.now index.now }
-    ensures { did result.what result.rect ≡ exec (course_of sheet.now) rect (look_tree x z) }
-{
-    let out = look_by(sheet, index, true, rect, x, z);
-    let what = out.what;
-    let q = out.rect;
-    LookOut {
-        what,
-        rect: Rect {
-            seen: q.seen,
-            x_lo: q.x_lo,
-            x_hi: q.x_hi,
-            z_lo: q.z_lo,
-            z_hi: q.z_hi,
-        },
-    }
-}
-
-// The same without an index, for a call that makes one or two looks.
-pub fn scan_at(sheet: &[u8], rect: Rect, x: f64, z: f64) -> LookOut
-    requires { answer_of sheet.now ≡ 0 }
-    ensures { did result.what result.rect ≡ exec (course_of sheet.now) rect (look_tree x z) }
-{
-    let none = [0u64; 1];
-    look_by(sheet, &none, false, rect, x, z)
-}
-
-// The height of the patch that is record i at the spot.
-fn patch_height(sheet: &[u8], i: usize, x: f64, z: f64) -> f64
-    requires { 80 + 64 * i ≤ length sheet.now }
-    ensures { result ≡ (patch_sample sheet.now x z i).height }
-{
-    let a = sheet::double(sheet, i, 5);
-    let b = sheet::double(sheet, i, 6);
-    (sheet::double(sheet, i, 4) + a * x) + b * z
-}
-
-// The course's height at the spot, where i is the first patch with the spot in it, or past the last.
-fn height_of(sheet: &[u8], count: usize, n: usize, i: usize, x: f64, z: f64) -> f64
-    requires sheet_value { (answer_of sheet.now ≡ 0) × ((count ≡ surfaces sheet.now) × (n ≡ patches sheet.now)) }
-    requires i_value { i ≡ first (covers sheet.now x z) n count }
-    ensures { result ≡ (course_of sheet.now x z).height }
-{
-    if i < count + n {
-        patch_height(sheet, i, x, z)
-    } else {
-        0.0
-    }
-}
-
-// The height by trying each patch.
-fn scanned_height(sheet: &[u8], x: f64, z: f64) -> f64
-    requires { answer_of sheet.now ≡ 0 }
-    ensures { result ≡ (course_of sheet.now x z).height }
-{
-    let count = octets::half(sheet, 0) as usize;
-    let n = octets::half(sheet, 8) as usize;
-    let i = index::find_patch(sheet, count, n, x, z);
-    height_of(sheet, count, n, i, x, z)
-}
-
-#[derive(Clone, Copy)]
-pub struct HeightOut {
-    pub answer: u32,
-    pub height: f64,
-}
-
-// The height at a spot. The answer is 0, or the number of the first test that fails, with +0.
-pub fn height(sheet: &[u8], x: f64, z: f64) -> HeightOut
-    ensures { result ≡ height_of sheet.now x z }
-{
-    let answer = check_sheet(sheet);
-    if answer != 0 {
-        return HeightOut {
-            answer,
-            height: 0.0,
-        };
-    }
-    if look::spot_ok(x, z) {
-        HeightOut {
-            answer: 0,
-            height: scanned_height(sheet, x, z),
-        }
-    } else {
-        HeightOut {
-            answer: 11,
-            height: 0.0,
+    // With no index, for a call that makes one or two looks.
+    pub fn scanned(bytes: &'a [u8]) -> Course<'a>
+        requires { Accepted bytes.now }
+        ensures { result ≡ bytes.now }
+    {
+        Course {
+            sheet: Sheet::accepted(bytes),
+            index: None,
         }
     }
+
+    // The first patch with the spot in it, by the index or by trying each.
+    fn find(&self, x: f64, z: f64) -> Option<usize>
+        ensures { FindsPatch self.now x z result }
+    {
+        match self.index {
+            Some(index) => index::find(&self.sheet, index, x, z),
+            None => index::find_patch(&self.sheet, x, z),
+        }
+    }
+
+    fn sample(&self, x: f64, z: f64) -> GroundSample
+        ensures { result ≡ course_of self.now x z }
+    {
+        sample_of(&self.sheet, self.find(x, z), x, z)
+    }
+
+    // A look: the spot is tested, and one that passes widens the rectangle.
+    pub fn look(&self, rect: &mut Rect, x: f64, z: f64) -> Option<GroundSample>
+        ensures { did result rect.new ≡ exec (course_of self.now) rect.old (look_tree x z) }
+    {
+        if !look::spot_ok(x, z) {
+            return None;
+        }
+        rect.widen(x, z);
+        Some(self.sample(x, z))
+    }
+}
+
+// The height at a spot, or the first test that fails.
+#[tactic(auto, unfolding(crate::specs::Sheet::height_of))]
+pub fn height(bytes: &[u8], x: f64, z: f64) -> Result<f64, Refusal>
+    ensures { height_by result ≡ height_of bytes.now x z }
+{
+    sheet::check_sheet(bytes)?;
+    if !look::spot_ok(x, z) {
+        return Err(Refusal::HeightSpot);
+    }
+    Ok(Course::scanned(bytes).sample(x, z).height)
 }

@@ -1,12 +1,12 @@
 -- Statements. A double is by value a whole number from m to n exactly where `is_whole` says so, and `nat_of` is that number; a whole number that a u32
 -- holds, as a double and back. Assumes nothing.
-use Rattle.std.specs.Prelude.{◌≡◌, ℕ, ◌+◌, ◌*◌, ◌/◌, ◌≤◌, min, Bool, true, false, ◌&&◌, ◌||◌, T, ◌↔◌, ℤ, pos, ◌==◌, nat_le, refl, Float}
+use Rattle.std.specs.Prelude.{◌≡◌, ℕ, ◌*◌, ◌/◌, ◌≤◌, min, Bool, true, false, ◌&&◌, ◌||◌, T, ◌↔◌, ℤ, pos, ◌==◌, nat_le, Float}
 use Rattle.std.proofs.Math.Nat.{eq_of_mul-eq-mul_right, zero-div}
-use Rattle.std.proofs.Common.{mul-div_cancel, mul_right_comm, zero-mul, arith, ◌∙◌, subst, true≢false, leb→le, eqb→eq}
+use Rattle.std.proofs.Common.{mul-div_cancel, mul_right_comm, zero-mul, arith, ◌∙◌, true≢false, leb→le, eqb→eq}
 use Rattle.std.proofs.Math.Path.{sym, ap}
 use Rattle.std.specs.Bool.{beq}
 use Rattle.std.proofs.Math.Dec.{le→leb}
-use Rattle.std.specs.Float.Ieee.{nan, up, down, binary64, level, eq, round, of_int, in_float, to_unsigned}
+use Rattle.std.specs.Float.Ieee.{nan, up, down, binary64, level, eq, of_int, in_float, to_unsigned}
 use Rattle.std.specs.Float.{inf, fin}
 use Rattle.std.specs.Float.Ieee.Bits.{is_true}
 use Rattle.std.specs.Float.Ieee.Exact.{HasValue}

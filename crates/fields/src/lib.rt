@@ -16,31 +16,23 @@ pub fn whole(n: u64) -> f64
 }
 
 // Rust's `x as u32`.
+#[tactic(auto, unfolding(crate::specs::Fields::nat_of))]
 pub fn nat_of(x: f64) -> u32
     ensures { result ≡ nat_of x }
 {
-    if x > -1.0 {
-        if x < 18446744073709551616.0 {
-            let n = std::num::truncating_f64_to_u64(x);
-            if n <= 4294967295 {
-                return n as u32;
-            }
-            return 4294967295;
-        }
-        return 4294967295;
-    }
-    0
+    std::num::saturating_f64_to_u32(x)
 }
 
 // Whether x is a whole number from `least` to `most`.
+#[tactic(auto, unfolding(crate::specs::Fields::is_whole))]
 pub fn is_whole(x: f64, least: u32, most: u32) -> bool
     ensures { result ≡ is_whole least most x }
 {
     let n = nat_of(x);
-    let y = whole(n as u64);
-    (x == y) & ((least <= n) & (n <= most))
+    (x == whole(u64::from(n))) & (least <= n) & (n <= most)
 }
 
+#[tactic(auto, unfolding(crate::specs::Fields::vec_at))]
 pub fn vec_at(s: &[f64], o: usize) -> DVec3
     requires { o + 3 ≤ length s.now }
     ensures { result ≡ vec_at s.now o }
@@ -53,22 +45,21 @@ pub fn vec_at(s: &[f64], o: usize) -> DVec3
 }
 
 // Time, pos, vel, spin.
+#[tactic(auto, unfolding(crate::specs::Fields::state_at))]
 pub fn state_at(s: &[f64], o: usize) -> BallState
     requires { o + 10 ≤ length s.now }
     ensures { result ≡ state_at s.now o }
 {
-    let pos = vec_at(s, o + 1);
-    let vel = vec_at(s, o + 4);
-    let spin = vec_at(s, o + 7);
     BallState {
         time: s[o],
-        pos,
-        vel,
-        spin,
+        pos: vec_at(s, o + 1),
+        vel: vec_at(s, o + 4),
+        spin: vec_at(s, o + 7),
     }
 }
 
 // The twelve fields of a ball in the struct's order.
+#[tactic(auto, unfolding(crate::specs::Fields::ball_at))]
 pub fn ball_at(s: &[f64], o: usize) -> BallModel
     requires { o + 12 ≤ length s.now }
     ensures { result ≡ ball_at s.now o }
@@ -90,15 +81,21 @@ pub fn ball_at(s: &[f64], o: usize) -> BallModel
 }
 
 // Writes the record from `at` on.
+#[tactic(auto, unfolding(crate::specs::Fields::written))]
 pub fn put(out: &mut [f64], at: usize, rec: &[f64])
     requires { at + length rec.now ≤ length out.old }
     ensures { out.new ≡ written out.old at rec.now }
 {
-    let mut i = 0;
-    while i < rec.len() {
-        out[at + i] = rec[i];
-        i += 1;
-    }
+    out[at..at + rec.len()].copy_from_slice(rec);
+}
+
+// A state as ten doubles: time, pos, vel, spin.
+pub fn state_numbers(s: &BallState) -> [f64; 10]
+    ensures { result ≡ state_fields s.now }
+{
+    [
+        s.time, s.pos.x, s.pos.y, s.pos.z, s.vel.x, s.vel.y, s.vel.z, s.spin.x, s.spin.y, s.spin.z,
+    ]
 }
 
 // Writes the state from `at` on: time, pos, vel, spin.
@@ -106,11 +103,5 @@ pub fn put_state(out: &mut [f64], at: usize, s: BallState)
     requires { at + 10 ≤ length out.old }
     ensures { out.new ≡ written out.old at (state_fields s) }
 {
-    let pos = s.pos;
-    let vel = s.vel;
-    let spin = s.spin;
-    let rec = [
-        s.time, pos.x, pos.y, pos.z, vel.x, vel.y, vel.z, spin.x, spin.y, spin.z,
-    ];
-    put(out, at, &rec);
+    put(out, at, &state_numbers(&s));
 }

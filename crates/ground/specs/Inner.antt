@@ -1,17 +1,26 @@
 -- Contracts of inner functions: what the code makes of a run.
-use Rattle.ground_phase.specs.Inner.{ended_by, after_run}
-use Rattle.ground_phase.specs.declared.RunOut.{RunOut}
-use Rattle.ground.specs.Settle.{answer_by, how_by, rest_by}
-use Rattle.ground.specs.declared.Settled.{Settled}
+use Rattle.std.specs.Prelude.{ℕ, not, if◌then◌else◌, Result}
+use Rattle.refusal.specs.declared.Refusal.{Refusal}
+use Rattle.state.specs.declared.BallState.{BallState}
+use Rattle.aero.specs.declared.BallModel.{BallModel}
+use Rattle.shot.specs.Tests.{ball_ok, landing_ok}
+use Rattle.tally.specs.Inner.{outcome_by}
+use Rattle.tally.specs.declared.Tally.{Tally}
+use Rattle.roll.specs.declared.Ending.{Ending}
+use Rattle.ground.specs.Settle.{Settled, answer_by, how_by, rest_by}
 
-abbrev pub settled_by : RunOut → Settled
-settled_by r = record {
-  answer = answer_by (ended_by r);
-  termination = how_by (ended_by r);
-  contacts = (after_run r).contacts;
-  points = (after_run r).points;
-  steps = (after_run r).steps;
-  evaluations = (after_run r).evaluations;
-  rest = rest_by (ended_by r) (after_run r).good;
-  rect = (after_run r).rect;
+abbrev pub settled_by : Result Ending Refusal → Tally → Settled
+settled_by r t = record {
+  answer = answer_by (outcome_by r);
+  termination = how_by (outcome_by r);
+  contacts = t.contacts;
+  points = t.points;
+  steps = t.steps;
+  evaluations = t.evaluations;
+  rest = rest_by (outcome_by r) t.good;
+  rect = t.rect;
 }
+
+-- 5, 7: with these tests both `step` and `impact` end theirs
+abbrev pub ball_and_landing : BallModel → BallState → ℕ
+ball_and_landing ball state = if not (ball_ok ball) then 5 else if not (landing_ok state) then 7 else 0

@@ -1,9 +1,8 @@
 -- Definitions. The settle, as 01 tells it: all that a call gives, from the sheet's bytes and the rest of its input.
-use Rattle.std.specs.Prelude.{ℕ, ◌/◌, Bool, List, [], eqb, Float, length}
+use Rattle.std.specs.Prelude.{ℕ, ◌/◌, List, [], eqb, Float, length, Option, Some, None, Result as RustResult, Ok, Err}
 use Rattle.number.specs.Ops.{◌⊕◌, dec}
 use Rattle.vector.specs.Vec.{zero3}
 use Rattle.state.specs.declared.BallState.{BallState}
-use Rattle.aero.specs.declared.BallModel.{BallModel}
 use Rattle.look.specs.Rect.{no_rect}
 use Rattle.look.specs.Tree.{Tree, Spot, Did, exec, looks}
 use Rattle.look.specs.declared.Rect.{Rect}
@@ -15,18 +14,48 @@ use Rattle.shot.specs.declared.Shot.{Shot}
 use Rattle.tally.specs.declared.Conditions.{Conditions}
 use Rattle.roll.specs.declared.Ending.{Ending}
 use Rattle.state.specs.declared.Termination.{Termination}
-use Rattle.state.specs.declared.Termination.TheVariants.{Nothing, Rest, MaxTime, MaxImpacts}
+use Rattle.state.specs.declared.Termination.TheVariants.{Rest, MaxTime, MaxImpacts}
 use Rattle.hop.specs.declared.Way.{Way}
 use Rattle.train.specs.Train.{train_by, train}
 use Rattle.ground.specs.Tests.{refusal_of}
-use Rattle.ground.specs.declared.Settled.{Settled}
+use Rattle.refusal.specs.declared.Refusal.{Refusal}
+use Rattle.refusal.specs.Refusal.{answer_by as number_by}
+use Rattle.ground.specs.declared.Settled.{Settled as Code}
 
 -- 0 none, 1 rest, 2 time, 3 impacts: not 01's numbers, but those of the exported functions (reading-01, "The doors"; include/dimple.h)
-unfoldable pub termination_number : Termination → ℕ
-termination_number Nothing = 0
-termination_number Rest = 1
-termination_number MaxTime = 2
-termination_number MaxImpacts = 3
+unfoldable pub termination_number : Option Termination → ℕ
+termination_number None = 0
+termination_number (Some Rest) = 1
+termination_number (Some MaxTime) = 2
+termination_number (Some MaxImpacts) = 3
+
+-- 01, "Result of a settle": what it returns beside the lists
+pub record Settled : Type 0 where
+  pub answer : ℕ
+  pub termination : Option Termination
+  pub contacts : ℕ
+  pub points : ℕ
+  pub steps : ℕ
+  pub evaluations : ℕ
+  pub rest : BallState
+  pub rect : Rect
+
+-- the code's result says it by an outcome: how it ended, or the refusal by which it did not
+abbrev pub ended_by : RustResult Termination Refusal → Option Termination
+ended_by (Ok t) = Some t
+ended_by (Err r) = None
+
+abbrev pub told_by : Code → Settled
+told_by s = record {
+  answer = number_by s.outcome;
+  termination = ended_by s.outcome;
+  contacts = s.contacts;
+  points = s.points;
+  steps = s.steps;
+  evaluations = s.evaluations;
+  rest = s.rest;
+  rect = s.rect;
+}
 
 -- all that a call gives: what it returns, and both lists
 pub record Result : Type 0 where
@@ -43,15 +72,15 @@ no_state = record { time = dec 0 1; pos = zero3; vel = zero3; spin = zero3 }
 
 -- "Result of a settle: the number, zero counts, all-zero (+0) final state and rectangle"
 abbrev pub refusal : ℕ → Settled
-refusal n = record { answer = n; termination = Nothing; contacts = 0; points = 0; steps = 0; evaluations = 0; rest = no_state; rect = no_rect }
+refusal n = record { answer = n; termination = None; contacts = 0; points = 0; steps = 0; evaluations = 0; rest = no_state; rect = no_rect }
 
 abbrev pub answer_by : Outcome Ending → ℕ
 answer_by (goes e) = 0
 answer_by (stops n) = n
 
-abbrev pub how_by : Outcome Ending → Termination
-how_by (goes e) = e.how
-how_by (stops n) = Nothing
+abbrev pub how_by : Outcome Ending → Option Termination
+how_by (goes e) = Some e.how
+how_by (stops n) = None
 
 -- 20 to 23: "final state the last that passed its test (else the landing)"
 abbrev pub rest_by : Outcome Ending → BallState → BallState

@@ -1,5 +1,5 @@
 -- Definitions. `step` and `impact`, with 01's tests and refusals.
-use Rattle.std.specs.Prelude.{ℕ, List, eqb, Float}
+use Rattle.std.specs.Prelude.{ℕ, List, eqb, Float, Result, Ok, Err}
 use Rattle.state.specs.declared.BallState.{BallState}
 use Rattle.aero.specs.Aero.{radius_of}
 use Rattle.aero.specs.declared.BallModel.{BallModel}
@@ -9,16 +9,33 @@ use Rattle.rolling.specs.ContactStep.{contact_step_of}
 use Rattle.look.specs.Rect.{no_rect}
 use Rattle.look.specs.Tree.{exec}
 use Rattle.course.specs.Sheet.{course_of}
-use Rattle.tally.specs.Language.{M, Outcome, goes, stops, ◌>>=◌, ◌>>◌, pure, look, test}
+use Rattle.tally.specs.Language.{M, Outcome, goes, stops, ◌>>=◌, pure, look, test}
 use Rattle.std.specs.Prelude.{if◌then◌else◌}
 use Rattle.roll.specs.Roll.{whole_phase}
 use Rattle.ground.specs.Tests.{step_test, impact_test}
 use Rattle.ground.specs.Settle.{first_log}
-use Rattle.ground.specs.declared.StepOut.{StepOut}
-use Rattle.ground.specs.declared.ImpactOut.{ImpactOut}
+use Rattle.refusal.specs.declared.Refusal.{Refusal}
+use Rattle.refusal.specs.Refusal.{number_of}
+use Rattle.ground.specs.declared.Moved.{Moved}
+
+-- what `step` gives: the number, a state, the phase
+pub record StepOut : Type 0 where
+  pub answer : ℕ
+  pub state : BallState
+  pub phase : ℕ
+
+-- what `impact` gives: the number, a state
+pub record ImpactOut : Type 0 where
+  pub answer : ℕ
+  pub state : BallState
 
 abbrev pub step_out : ℕ → BallState → ℕ → StepOut
 step_out n s phase = record { answer = n; state = s; phase = phase }
+
+-- the code's result, of the given state
+abbrev pub stepped_by : BallState → Result Moved Refusal → StepOut
+stepped_by state (Ok m) = step_out 0 m.state (whole_phase m.phase)
+stepped_by state (Err r) = step_out (number_of r) state 0
 
 -- ground.rs, GroundPhysics::step, with the tests of 01: 22 before each look, and of the state
 unfoldable pub step_run : Float → Float → Float → BallModel → BallState → M StepOut
@@ -45,6 +62,10 @@ step_of sheet dt stop threshold ball state =
 
 abbrev pub impact_out : ℕ → BallState → ImpactOut
 impact_out n s = record { answer = n; state = s }
+
+abbrev pub struck_by : BallState → Result BallState Refusal → ImpactOut
+struck_by state (Ok s) = impact_out 0 s
+struck_by state (Err r) = impact_out (number_of r) state
 
 -- "`impact` a sheet, ball and state, its sample being the look at the state's x and z"
 unfoldable pub impact_run : BallModel → BallState → M BallState

@@ -1,6 +1,5 @@
 -- Definitions. The ground phase: the second loop of ground.rs, fn settle, with the tests and the count of steps that 01 adds; and the end at t_end.
-use Rattle.std.specs.Prelude.{ℕ}
-use Rattle.std.proofs.Math.Option.{Option, none, some}
+use Rattle.std.specs.Prelude.{ℕ, Option, Some, None}
 use Rattle.state.specs.declared.BallState.{BallState}
 use Rattle.surface.specs.declared.GroundSample.{GroundSample}
 use Rattle.state.specs.declared.Phase.{Phase}
@@ -8,15 +7,15 @@ use Rattle.state.specs.declared.Phase.TheVariants.{Roll as InRoll}
 use Rattle.tally.specs.Times.{is_late}
 use Rattle.tally.specs.Language.{M, ◌>>=◌, ◌>>◌, pure, push_point, steps_left, loop}
 use Rattle.tally.specs.declared.Conditions.{Conditions}
-use Rattle.roll.specs.Roll.{ending, roll_from, last_of, ground_step}
+use Rattle.roll.specs.Roll.{ending, roll_from, ground_step}
 use Rattle.roll.specs.declared.Roll.{Roll}
 use Rattle.roll.specs.declared.Ending.{Ending}
 use Rattle.state.specs.declared.Termination.TheVariants.{MaxTime}
 
 -- `last_phase.unwrap_or(Phase::Roll)`
 unfoldable pub last_phase : Option Phase → Phase
-last_phase none = InRoll
-last_phase (some phase) = phase
+last_phase None = InRoll
+last_phase (Some phase) = phase
 
 -- t_end: push the point, end with that state
 unfoldable pub time_up : BallState → Phase → M Ending
@@ -27,7 +26,7 @@ time_up s phase = do
 module _ (c : Conditions) where
   -- at most n steps
   unfoldable pub ground_from : ℕ → Roll → M Ending
-  ground_from n = loop n (λ g. is_late g.state.time c.t_end) (λ g. time_up g.state (last_phase (last_of g.last))) (ground_step c)
+  ground_from n = loop n (λ g. is_late g.state.time c.t_end) (λ g. time_up g.state (last_phase g.last)) (ground_step c)
 
   -- from what the loop carries
   abbrev pub ground_on : Roll → M Ending

@@ -3,65 +3,42 @@
 
 ghost use Rattle.std.specs.Prelude.{◌≡◌};
 ghost use Rattle.course.specs.Sheet.{course_of};
-ghost use Rattle.course.specs.Index.{Ready};
 ghost use Rattle.tally.specs.Inner.{Bounded};
-ghost use Rattle.roll.specs.Roll.{last_of, roll_from};
+ghost use Rattle.roll.specs.Roll.{roll_from};
 ghost use Rattle.ground_phase.specs.GroundPhase.{last_phase};
 ghost use Rattle.ground_phase.specs.Inner.{TimesUp, Grounds};
 
-use roll::{Ending, LastPhase, Roll, RollPass};
+use course::Course;
+use refusal::Refusal;
+use roll::{Ending, Roll};
 use state::{BallState, Phase, Termination};
+use std::ops::ControlFlow;
 use surface::GroundSample;
-use tally::{Conditions, PointPush, Tally};
-
-// How a run came back: with its end, or stopped by a number, 20 to 23.
-#[derive(Clone, Copy)]
-pub enum RunOut {
-    Over(Ending, Tally),
-    Ended(u32, Tally),
-}
-
-// How the ground phase came back: a run's end or stop; or a step is due that step_limit does not allow, with what the loop carries.
-#[derive(Clone, Copy)]
-pub enum GroundOut {
-    Ran(RunOut),
-    Due(Roll, Tally),
-}
+use tally::{Conditions, Tally};
 
 // The phase at t_end: the last step's, or a roll before the first.
-fn last_phase(last: LastPhase) -> Phase
-    ensures { result ≡ last_phase (last_of last) }
+#[tactic(auto, unfolding(crate::specs::GroundPhase::last_phase))]
+fn last_phase(last: Option<Phase>) -> Phase
+    ensures { result ≡ last_phase last }
 {
-    match last {
-        LastPhase::None => Phase::Roll,
-        LastPhase::Some(phase) => phase,
-    }
+    last.unwrap_or(Phase::Roll)
 }
 
 // t_end: the point of the state, which ends the run.
 pub fn time_up(
-    sheet: &[u8],
-    index: &[u64],
+    course: &Course,
     points: &mut [f64],
-    t: Tally,
-    s: BallState,
+    t: &mut Tally,
+    s: &BallState,
     phase: Phase,
-) -> RunOut
-    requires { Ready sheet.now index.now }
-    ensures { TimesUp (course_of sheet.now) s phase t points.old result points.new }
+) -> Result<Ending, Refusal>
+    ensures { TimesUp (course_of course.now) s.now phase t.old points.old result t.new points.new }
 {
-    let pushed = tally::push_point(sheet, index, points, t, s, phase);
-    let t1 = match pushed {
-        PointPush::Ended(a, after) => {
-            return RunOut::Ended(a, after);
-        }
-        PointPush::Made(after) => after,
-    };
-    let end = Ending {
+    t.push_point(course, points, s, phase)?;
+    Ok(Ending {
         how: Termination::MaxTime,
-        state: s,
-    };
-    RunOut::Over(end, t1)
+        state: *s,
+    })
 }
 
 // The first pass: the ball on the sample under it.
@@ -72,46 +49,32 @@ pub fn roll_of(s: BallState, at: GroundSample) -> Roll
         state: s,
         at,
         next_sample: s.time,
-        last: LastPhase::None,
+        last: None,
     }
 }
 
-// Slides and rolls, from what the loop carries to rest or t_end.
+// Slides and rolls, from what the loop carries to rest or t_end; or it breaks off where a step is due that step_limit does not allow, and gives
+// what the loop carries.
 pub fn ground(
-    sheet: &[u8],
-    index: &[u64],
+    course: &Course,
     points: &mut [f64],
-    c: Conditions,
+    c: &Conditions,
     roll: Roll,
-    tally: Tally,
-) -> GroundOut
-    requires ready { Ready sheet.now index.now }
-    requires bounded { Bounded c tally }
-    ensures { Grounds (course_of sheet.now) c roll tally points.old result points.new }
+    t: &mut Tally,
+) -> Result<ControlFlow<Ending, Roll>, Refusal>
+    requires bounded { Bounded c.now t.old }
+    ensures { Grounds (course_of course.now) c.now roll t.old points.old result t.new points.new }
 {
     let mut g = roll;
-    let mut t = tally;
-    loop {
-        let s = g.state;
-        if tally::is_late(s.time, c.t_end) {
-            let last = g.last;
-            return GroundOut::Ran(time_up(sheet, index, points, t, s, last_phase(last)));
-        }
+    while !tally::is_late(g.state.time, c.t_end) {
         if t.steps >= c.step_limit {
-            return GroundOut::Due(g, t);
+            return Ok(ControlFlow::Continue(g));
         }
-        let pass = roll::ground_step(sheet, index, points, c, g, t);
-        match pass {
-            RollPass::On(h, after) => {
-                g = h;
-                t = after;
-            }
-            RollPass::Over(e, after) => {
-                return GroundOut::Ran(RunOut::Over(e, after));
-            }
-            RollPass::Ended(a, after) => {
-                return GroundOut::Ran(RunOut::Ended(a, after));
-            }
+        match roll::ground_step(course, points, c, &g, t)? {
+            ControlFlow::Continue(next) => g = next,
+            ControlFlow::Break(end) => return Ok(ControlFlow::Break(end)),
         }
     }
+    let end = time_up(course, points, t, &g.state, last_phase(g.last))?;
+    Ok(ControlFlow::Break(end))
 }

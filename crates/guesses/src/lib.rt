@@ -6,6 +6,8 @@ ghost use Rattle.root.specs.Inner.{Guess};
 ghost use Rattle.root.specs.Guess.{guess_of};
 ghost use Rattle.guesses.specs.Guesses.{guess_look_of};
 
+use sheet::Sheet;
+
 // The bits of the root of x where its estimate is sure, else 0.
 #[unsafe(no_mangle)]
 pub extern "C" fn guess_root(x: f64) -> u64
@@ -17,17 +19,15 @@ pub extern "C" fn guess_root(x: f64) -> u64
 // Whether a look at the spot is in the column and the row that the index guesses, 1, or tries each patch, 0; 100 for a sheet that is refused.
 // Of sheets with few patches, which have no index, it tells nothing.
 #[unsafe(no_mangle)]
+#[tactic(auto, unfolding(crate::specs::Guesses::guess_look_of))]
 pub extern "C" fn guess_look(sheet: &[u8], x: f64, z: f64) -> u32
     ensures { result ≡ guess_look_of sheet.now x z }
 {
-    if sheet::check_sheet(sheet) != 0 {
+    if sheet::check_sheet(sheet).is_err() {
         return 100;
     }
+    let sheet = Sheet::accepted(sheet);
     let mut index = [0u64; index::INDEX_WORDS];
-    index::make_index(sheet, &mut index);
-    if index::is_guessed(&index, x, z) {
-        1
-    } else {
-        0
-    }
+    index::make_index(&sheet, &mut index);
+    u32::from(index::is_guessed(&index, x, z))
 }

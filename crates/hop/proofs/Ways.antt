@@ -1,8 +1,7 @@
 -- Lemmas: the ways that a hop can go, for a run that flies it from its start.
-use Prim.Native.Nat.{ℕ, ◌+◌, ◌-◌}
-use mathlib.Core.Path.{◌≡◌}
-use mathlib.Core.List.{List}
-use lib.Ieee.{Float}
+use Rattle.std.specs.Prelude.{ℕ, ◌+◌, ◌-◌, ◌≡◌, List, Float, Result, Ok, Err}
+use Rattle.std.specs.declared.ops.ControlFlow.{ControlFlow}
+use Rattle.std.specs.declared.ops.ControlFlow.TheVariants.{Continue, Break}
 use Rattle.number.specs.Ops.{◌⊕◌}
 use Rattle.state.specs.declared.BallState.{BallState}
 use Rattle.look.specs.Tree.{Oracle}
@@ -13,12 +12,12 @@ use Rattle.tally.specs.declared.Conditions.{Conditions}
 use Rattle.tally.specs.declared.Tally.{Tally}
 use Rattle.tally.proofs.Reached.{went, halted}
 use Rattle.tally.proofs.Loop.{due_stops}
+use Rattle.refusal.specs.declared.Refusal.{Refusal}
+use Rattle.refusal.specs.Refusal.{number_of}
 use Rattle.hop.specs.Hop.{flight, hop_from, hop_on, hop}
 use Rattle.hop.specs.Inner.{Hops}
 use Rattle.hop.specs.declared.Flight.{Flight}
 use Rattle.hop.specs.declared.Way.{Way}
-use Rattle.hop.specs.declared.HopOut.{HopOut}
-use Rattle.hop.specs.declared.HopOut.TheVariants.{Flew, Due, Ended}
 
 module _ {A : Type 0} {o : Oracle} {m : M A} {a : Place} {n : ℕ} {t : Tally} {lc lp : List Float} (c : Conditions) (start : BallState)
     (k : Way → M A) {f : Flight}
@@ -27,14 +26,15 @@ module _ {A : Type 0} {o : Oracle} {m : M A} {a : Place} {n : ℕ} {t : Tally} {
   unfolding hop
   from = rw e r
 
-  module _ {t' : Tally} {lp' : List Float} {w : HopOut} (h : Hops o c f t lp w lp') where
-    pub flew : {way : Way} → w ≡ Flew way t' → Reached o m a (n + (t'.steps - t.steps)) (k way) (place t' lc lp')
-    flew v = went _ k from (rw v at (h lc))
+  module _ {t' : Tally} {lp' : List Float} {w : Result (ControlFlow Way Flight) Refusal} (h : Hops o c f t lp w t' lp') where
+    pub hop_stopped : {s : Refusal} → w ≡ Err s → Reached o m a (n + (t'.steps - t.steps)) (stop_with (number_of s)) (place t' lc lp')
+    hop_stopped v = halted _ k from (rw v at (h lc))
 
-    pub hop_ended : {i : ℕ} → w ≡ Ended i t' → Reached o m a (n + (t'.steps - t.steps)) (stop_with i) (place t' lc lp')
-    hop_ended v = halted _ k from (rw v at (h lc))
+    module _ {p : ControlFlow Way Flight} (v : w ≡ Ok p) where
+      pub flew : {way : Way} → p ≡ Break way → Reached o m a (n + (t'.steps - t.steps)) (k way) (place t' lc lp')
+      flew u = went _ k from (rw (v, u) at (h lc))
 
-    -- step_limit is reached: 23
-    pub hop_due : {g : Flight} → w ≡ Due g t' → Reached o m a (n + (t'.steps - t.steps)) (stop_with 23) (place t' lc lp')
-    unfolding hop_from
-    hop_due v = let d = rw v at (h lc) in halted _ k from (due_stops _ _ _ _ d.0 d.1)
+      -- step_limit is reached: 23
+      pub hop_due : {g : Flight} → p ≡ Continue g → Reached o m a (n + (t'.steps - t.steps)) (stop_with 23) (place t' lc lp')
+      unfolding hop_from
+      hop_due u = let d = rw (v, u) at (h lc) in halted _ k from (due_stops _ _ _ _ d.0 d.1)

@@ -1,6 +1,5 @@
 -- Definitions. A hop: ground.rs, fn hop, with the tests and the count of steps that 01 adds, and the spin that fades in the second settle (02, paper 13).
-use Rattle.std.specs.Prelude.{ℕ, Bool, false, cond, Float}
-use Rattle.std.proofs.Math.Option.{Option, none, some}
+use Rattle.std.specs.Prelude.{ℕ, Bool, false, cond, Float, Option, Some, None}
 use Rattle.std.specs.Float.Ieee.{neg}
 use Rattle.number.specs.Ops.{◌⊕◌, ◌⊖◌, ◌⊗◌, dec}
 use Rattle.number.specs.Number.{min_of}
@@ -79,10 +78,10 @@ step_end after arc s = record { time = s.time ⊕ arc.h; pos = arc.b.pos; vel = 
 
 -- after a step to b: the arrival, tested; or, with no crossing, the sample point if it is due
 unfoldable pub hop_next : Flight → BallState → Option BallState → M (Pass Flight Way)
-hop_next f b (some s) = do
+hop_next f b (Some s) = do
   s ← test s
   pure (over (Arrived s))
-hop_next f b none = do
+hop_next f b None = do
   let due = is_due b.time f.next_sample
   when due (push_point b Hop)
   pure (again (flight b (next_after due f.next_sample f.next_sample)))

@@ -1,14 +1,15 @@
 -- Lemmas: the cuts of an index.
 use Prim.Native.Nat.{ℕ, zero, suc, ◌+◌, ◌-◌, ◌*◌, ◌^◌, ◌≤◌, ◌<◌}
 use native.Mathlib.Omega.{arith}
-use mathlib.Core.Path.{◌≡◌, refl, sym, ap, ◌∙◌, subst}
-use mathlib.Core.Bool.{Bool, cond}
+use mathlib.Core.Path.{◌≡◌, refl, ap}
+use mathlib.Core.Bool.{true, false, cond}
+use native.Mathlib.Nat.{pow-succ'}
 use mathlib.Core.List.{List}
-use lib.ListN.{length, get_or, set}
+use lib.ListN.{set}
 use lib.Ieee.{Float, le, neg, binary64, of_bits}
 use borrow.Author.Tests.{le-leb, lt-leb}
 use Rattle.number.specs.Ops.{◌⊕◌, ◌⊖◌, ◌⊘◌, dec}
-use Rattle.number.specs.Number.{min_of, max_of, within_of}
+use Rattle.number.specs.Number.{min_of, max_of}
 use Rattle.sheet.specs.Sheet.{surfaces, patches, real}
 use Rattle.index.specs.Index.{cut, few, bits_of, least_from, greatest_from, steps_from, spread_of, cuts_in, SameCuts, strip_from, strip_of, is_guessed}
 
@@ -57,6 +58,30 @@ cuts_few s ix h j = rw (le-leb (patches s) few h)
 pub cuts_many : (s ix iy iz iw : List ℕ) → few < patches s → iy ≡ spread_of s 0 ix → iz ≡ spread_of s 1 iy → SameCuts iw iz → SameCuts iw (cuts_in s ix)
 unfolding cuts_in
 cuts_many s ix iy iz iw h e f r j = rw (lt-leb (patches s) few h, ← e, ← f) (r j)
+
+-- ---- the strip that is guessed, found by halving
+pub half : (k : ℕ) → 0 < k → 2 ^ k ≡ 2 * 2 ^ (k - 1)
+half zero l = absurd (omega arith)
+half (suc k) l = let e : suc k - 1 ≡ k = omega arith in rw e (pow-succ' 2 k)
+
+module _ (ix : List ℕ) (d : ℕ) (x : Float) (k c : ℕ) {y : Float} {s : ℕ} (l : 0 < k) (f : s ≡ 2 ^ (k - 1)) (e : y ≡ cut ix (17 * d + c + s)) where
+  next : strip_from ix d x (k - 1) (cond (le y x) (c + s) c) ≡ strip_from ix d x k c
+  unfolding strip_from
+  next = rw (e, f) (go k l)
+    where
+      go : (k : ℕ) → 0 < k → strip_from ix d x (k - 1) (cond (le (cut ix (17 * d + c + 2 ^ (k - 1))) x) (c + 2 ^ (k - 1)) c) ≡ strip_from ix d x k c
+      go zero l = absurd (omega arith)
+      go (suc k) l = let e : suc k - 1 ≡ k = omega arith in rw e
+
+  pub moved : le y x ≡ true → strip_from ix d x (k - 1) (c + s) ≡ strip_from ix d x k c
+  moved t = rw t at next
+
+  pub stayed : le y x ≡ false → strip_from ix d x (k - 1) c ≡ strip_from ix d x k c
+  stayed t = rw t at next
+
+pub strip_last : (ix : List ℕ) (d : ℕ) (x : Float) (k c : ℕ) → k ≡ 0 → c ≡ strip_from ix d x k c
+unfolding strip_from
+strip_last ix d x k c e = rw e
 
 module _ (ix iy : List ℕ) (r : SameCuts ix iy) where
   cut_same : (j : ℕ) → cut ix j ≡ cut iy j

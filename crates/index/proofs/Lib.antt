@@ -1,4 +1,3 @@
 pub mod Reach
 pub mod Marks
-pub mod Halving
 pub mod Cuts

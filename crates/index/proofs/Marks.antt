@@ -1,7 +1,7 @@
 -- Words of marks.
 use Prim.Native.Nat.{ℕ, zero, suc, ◌+◌, ◌-◌, ◌*◌, ◌/◌, ◌%◌, ◌^◌, ◌≤◌, ◌<◌, min}
 use native.Mathlib.Nat.{add-zero, sub-zero, le_refl, not-suc-le-zero, le_of_suc-le-suc, pow-succ', div-div-eq-div-mul, div-one, suc-add, zero-add, sub_self}
-use native.Mathlib.Nat.{lt_of_lt_of_le, le_of_lt, eq-or-lt_of_le}
+use native.Mathlib.Nat.{le_of_lt, eq-or-lt_of_le}
 use native.Mathlib.Numerals.{add-one}
 use native.Mathlib.Omega.{arith}
 use mathlib.Core.Path.{◌≡◌, refl, sym, ap, ◌∙◌, subst, subst⁻¹}
@@ -10,13 +10,12 @@ use mathlib.Core.List.{List}
 use lib.ListN.{length, get_or, set, length-set}
 use lib.Seq.{get_or-set_same, get_or-set_other}
 use lib.Ieee.{Float}
-use mathlib.Core.Bool.{Bool, true, false, not, cond}
+use mathlib.Core.Bool.{Bool, true, false, cond}
 use lib.Bits.{bit_and, and_step}
-use lib.Pow.{pow_mono}
 use lib.Dec.{lit<}
 use lib.Count.{count_trailing_zeros, under}
 use Rattle.number.specs.Number.{within_of}
-use Rattle.sheet.specs.Sheet.{first, covers, surfaces, patches}
+use Rattle.sheet.specs.Sheet.{first, covers}
 use Rattle.index.specs.Index.{Marks, reaches, cut, strip, low, Entry, Indexed, Row, index_words, SameCuts}
 use Rattle.index.proofs.Reach.{reach_x, reach_z}
 
@@ -138,12 +137,6 @@ one_more p m b e j l h k g u r =
     i : j ≡ j - 1 + 1
     i = omega arith
 
-pub room : (m n : ℕ) → m < 2 ^ n → n < 64 → m < 2 ^ 63
-room m n l h = lt_of_lt_of_le l (pow_mono {j = 63} (omega arith))
-
-pub marks_at : (p : ℕ → Bool) (m e j i : ℕ) → j ≡ i → Marks p m (e - j) j → Marks p m (e - i) i
-marks_at p m e j i q r = subst (λ (x : ℕ). Marks p m (e - x) x) q r
-
 -- ---- the loop that goes through the marks: those of m are left, of the records from j to before e, and the first from j on is the first from i on
 pub record Left (p : ℕ → Bool) (m e j i : ℕ) : Type 0 where
   pub marks : Marks p m (e - j) j
@@ -182,25 +175,16 @@ module _ {p : ℕ → Bool} {m e j i : ℕ} (r : Left p m e j i) where
     after t = record { marks = (rw some at passed.rest).1; same = rw (← r.same, passed.same, some, ← h, t) }
 
 -- ---- the index
-pub entered : (s l : List ℕ) (k v count n : ℕ) {from end : ℕ} {lo hi : Float} → from ≡ count + min (64 * (k % 8)) n → end ≡ count + min (64 * (k % 8 + 1)) n
-    → count ≡ surfaces s → n ≡ patches s → lo ≡ cut l (strip k) → hi ≡ cut l (strip k + 1) → Marks (reaches s (k / 128) lo hi) v (end - from) from
-    → Entry s l k v
+pub entered : (s l : List ℕ) (k v d : ℕ) {from end : ℕ} {lo hi : Float} → d ≡ k / 128 → from ≡ low s (k % 8) → end ≡ low s (k % 8 + 1) → lo ≡ cut l (strip k)
+    → hi ≡ cut l (strip k + 1) → Marks (reaches s d lo hi) v (end - from) from → Entry s l k v
 unfolding Entry
-entered s l k v count n f e c d x y m =
-    let f' : _ ≡ low s (k % 8) = f ∙ cc in
-    let e' : _ ≡ low s (k % 8 + 1) = e ∙ cc in
-    rw (← x, ← y, ← f', ← e') m
+entered s l k v d a f e x y m = rw (← x, ← y, ← f, ← e, ← a) m
 
 -- the records of word w that both a row and a column mark
-module _ (s : List ℕ) (p : ℕ → Bool) (ix : List ℕ) (a b w from end count n : ℕ) (f : from ≡ count + min (64 * w) n) (e : end ≡ count + min (64 * (w + 1)) n)
-    (c : count ≡ surfaces s) (d : n ≡ patches s) (l : w < 8) where
+module _ (s : List ℕ) (p : ℕ → Bool) (ix : List ℕ) (a b w from end : ℕ) (f : from ≡ low s w) (e : end ≡ low s (w + 1)) (l : w < 8) where
   taken : (k : ℕ) → Row s p ix k → Marks p (get_or ix (k + w) 0) (end - from) from
   unfolding Row
-  taken k r =
-      let f' : from ≡ low s w = f ∙ cc in
-      let e' : end ≡ low s (w + 1) = e ∙ cc in
-      subst⁻¹ (λ (x : ℕ). Marks p (get_or ix (k + w) 0) (end - x) x) f'
-      (subst⁻¹ (λ (x : ℕ). Marks p (get_or ix (k + w) 0) (x - low s w) (low s w)) e' (r w l))
+  taken k r = rw (f, e) (r w l)
 
   pub both_marked : Row s p ix a → Row s p ix b → Marks p (bit_and (get_or ix (a + w) 0) (get_or ix (b + w) 0)) (end - from) from
   both_marked g h = marks_and p (get_or ix (a + w) 0) (get_or ix (b + w) 0) (end - from) from (taken a g) (taken b h)
@@ -293,10 +277,10 @@ module _ (p : ℕ → Bool) (count n : ℕ) where
     left : first p (to - from + (count + n - to)) from ≡ first p n count
     left = rw (← parts, f) h
 
-    pub in_word : i < to → i ≡ first p n count
-    in_word l = e ∙ sym (first_head p (to - from) (count + n - to) from (rw (← e) (omega arith))) ∙ left
+    pub in_word : (from ≤ i) × (i < from + (to - from)) → ((count ≤ i) × (i < count + n)) × (i ≡ first p n count)
+    in_word l = (omega arith, e ∙ sym (first_head p (to - from) (count + n - to) from (rw (← e) l.1)) ∙ left)
 
-    pub past_word : to ≤ i → Scan (w + 1)
+    pub past_word : i ≡ from + (to - from) → Scan (w + 1)
     past_word l =
         let q : from + (to - from) ≡ to = omega arith in
         rw (← t) (sym (first_tail p (to - from) (count + n - to) from (rw (← e) (omega arith)) ∙ ap (first p (count + n - to)) q) ∙ left)

@@ -4,12 +4,19 @@
 -- There are 16 columns along x and 16 rows along z, each between two of 17 cuts. The index is `index_words` words:
 --   128 d + 8 c + w   marks of column c (d = 0) or row c (d = 1): bit k is that of patch 64 w + k
 --   256 + 17 d + c    cut c along that axis, as the bits of a double
-use Rattle.std.specs.Prelude.{ℕ, zero, suc, ◌+◌, ◌-◌, ◌*◌, ◌/◌, ◌%◌, ◌^◌, ◌<◌, min, ◌≡◌, List, Bool, true, ◌&&◌, cond, leb, length, get_or, set, Float}
+use Rattle.std.specs.Prelude.{ℕ, zero, suc, ◌+◌, ◌-◌, ◌*◌, ◌/◌, ◌%◌, ◌^◌, ◌≤◌, ◌<◌, min, ◌≡◌, List, Bool, true, ◌&&◌, cond, leb, length, get_or, set, Float, Option, None, Some}
 use Rattle.std.specs.Float.Ieee.{le, eq, neg, of_bits, to_bits}
 use Rattle.std.specs.Float.{binary64}
 use Rattle.number.specs.Ops.{◌⊕◌, ◌⊖◌, ◌⊘◌, dec}
 use Rattle.number.specs.Number.{min_of, max_of, within_of}
-use Rattle.sheet.specs.Sheet.{surfaces, patches, real, answer_of}
+use Rattle.sheet.specs.Sheet.{surfaces, patches, real, answer_of, first, covers}
+use Rattle.index.specs.declared.Axis.{Axis}
+use Rattle.index.specs.declared.Axis.TheVariants.{X, Z}
+
+-- the number of an axis: 0 for x, 1 for z
+abbrev pub axis_number : Axis → ℕ
+axis_number X = 0
+axis_number Z = 1
 
 -- 16 columns and 16 rows of 8 words, and 34 cuts
 abbrev pub index_words : ℕ
@@ -23,6 +30,15 @@ few = 48
 unfoldable pub Marks : (ℕ → Bool) → ℕ → ℕ → ℕ → Type 0
 Marks p m zero i = Unit
 Marks p m (suc n) i = (p i ≡ true → m % 2 ≡ 1) × Marks p (m / 2) n (i + 1)
+
+-- what a search of the n numbers from i on finds: the first of which p holds, or none
+abbrev pub Finds : (ℕ → Bool) → ℕ → ℕ → Option ℕ → Type 0
+Finds p n i None = first p n i ≡ i + n
+Finds p n i (Some k) = ((i ≤ k) × (k < i + n)) × (k ≡ first p n i)
+
+-- the first listed patch with the spot in it, or none
+abbrev pub FindsPatch : List ℕ → Float → Float → Option ℕ → Type 0
+FindsPatch s x z r = Finds (covers s x z) (patches s) (surfaces s) r
 
 -- the patch that is record i reaches into lo to hi, along x (d = 0) or z (d = 1)
 unfoldable pub reaches : List ℕ → ℕ → Float → Float → ℕ → Bool

@@ -12,8 +12,7 @@ use Rattle.octets.specs.Octets.{little}
 use Rattle.shot.specs.declared.GroundPhysics.{GroundPhysics}
 use Rattle.shot.specs.declared.Shot.{Shot}
 use Rattle.tally.specs.Language.{contact_width, point_width}
-use Rattle.ground.specs.Settle.{Result, result_of, refusal, settle_of}
-use Rattle.ground.specs.declared.Settled.{Settled}
+use Rattle.ground.specs.Settle.{Result, Settled, result_of, refusal, settle_of}
 
 -- field i of 8 bytes, as a u64 and as an f64
 abbrev pub whole_at : List ℕ → ℕ → ℕ

@@ -2,11 +2,12 @@
 #![tactic(auto)]
 
 ghost use Rattle.std.specs.Prelude.{◌≡◌, ◌+◌, ◌*◌, ◌≤◌, length};
-ghost use Rattle.ground.specs.Settle.{result_of};
+ghost use Rattle.ground.specs.Settle.{result_of, told_by};
 ghost use Rattle.input.specs.Input.{whole_at, real_at, vec_at, physics_at, ball_at, landing_at, shot_by, settle_input_by};
 
 use aero::BallModel;
 use ground::Settled;
+use refusal::Refusal;
 use shot::{GroundPhysics, Shot};
 use state::BallState;
 use vector::DVec3;
@@ -20,6 +21,7 @@ fn whole(s: &[u8], i: usize) -> u64
 }
 
 // Field i, as an f64.
+#[tactic(auto, unfolding(crate::specs::Input::real_at))]
 fn real(s: &[u8], i: usize) -> f64
     requires { 8 * i + 8 ≤ length s.now }
     ensures { result ≡ real_at s.now i }
@@ -28,6 +30,7 @@ fn real(s: &[u8], i: usize) -> f64
 }
 
 // The fields i, i + 1, i + 2.
+#[tactic(auto, unfolding(crate::specs::Input::vec_at))]
 fn vector_at(s: &[u8], i: usize) -> DVec3
     requires { 8 * i + 24 ≤ length s.now }
     ensures { result ≡ vec_at s.now i }
@@ -39,6 +42,8 @@ fn vector_at(s: &[u8], i: usize) -> DVec3
     }
 }
 
+// The readers of a whole input take a slice: to make an array of 240 bytes of it can fail, and would want an answer for a failure that no input gives.
+#[tactic(auto, unfolding(crate::specs::Input::physics_at))]
 fn physics_at(s: &[u8]) -> GroundPhysics
     requires { 240 ≤ length s.now }
     ensures { result ≡ physics_at s.now }
@@ -53,6 +58,7 @@ fn physics_at(s: &[u8]) -> GroundPhysics
     }
 }
 
+#[tactic(auto, unfolding(crate::specs::Input::ball_at))]
 fn ball_at(s: &[u8]) -> BallModel
     requires { 240 ≤ length s.now }
     ensures { result ≡ ball_at s.now }
@@ -73,51 +79,42 @@ fn ball_at(s: &[u8]) -> BallModel
     }
 }
 
+#[tactic(auto, unfolding(crate::specs::Input::landing_at))]
 fn landing_at(s: &[u8]) -> BallState
     requires { 240 ≤ length s.now }
     ensures { result ≡ landing_at s.now }
 {
-    let pos = vector_at(s, 21);
-    let vel = vector_at(s, 24);
-    let spin = vector_at(s, 27);
     BallState {
         time: real(s, 20),
-        pos,
-        vel,
-        spin,
+        pos: vector_at(s, 21),
+        vel: vector_at(s, 24),
+        spin: vector_at(s, 27),
     }
 }
 
 // All fields.
+#[tactic(auto, unfolding(crate::specs::Input::shot_by))]
 pub fn shot_at(s: &[u8], fading: bool) -> Shot
     requires { 240 ≤ length s.now }
     ensures { result ≡ shot_by fading s.now }
 {
-    let physics = physics_at(s);
-    let step_limit = whole(s, 6);
-    let ball = ball_at(s);
-    let air_density = real(s, 19);
-    let landing = landing_at(s);
     Shot {
-        physics,
-        step_limit,
-        ball,
-        air_density,
-        landing,
+        physics: physics_at(s),
+        step_limit: whole(s, 6),
+        ball: ball_at(s),
+        air_density: real(s, 19),
+        landing: landing_at(s),
         fading,
     }
 }
 
 // Settles the landing that an input holds, with spin that fades in the air or is held. 12 for under 240 or over 34,048 bytes; the other answers are settle's.
 pub fn settle_input(input: &[u8], fading: bool, contacts: &mut [f64], points: &mut [f64]) -> Settled
-    ensures { result_of result contacts.new points.new ≡ settle_input_by fading input.now contacts.old points.old }
+    ensures { result_of (told_by result) contacts.new points.new ≡ settle_input_by fading input.now contacts.old points.old }
 {
-    if input.len() < 240 {
-        return ground::refused(12);
-    }
-    if 34048 < input.len() {
-        return ground::refused(12);
+    if input.len() < 240 || 34048 < input.len() {
+        return ground::refused(Refusal::InputLength);
     }
     let shot = shot_at(input, fading);
-    ground::settle(&input[240..], shot, contacts, points)
+    ground::settle(&input[240..], &shot, contacts, points)
 }

@@ -1,12 +1,12 @@
 -- Definitions. A board as doubles (include/dimple.h): the pin's x and z, the count, then 256 entries, each shot,
 -- bay, termination, contacts, x, z.
-use Rattle.std.specs.Prelude.{ℕ, zero, suc, ◌+◌, ◌*◌, Bool, true, ◌&&◌, cond, List, [], ◌∷◌, ◌++◌, leb, ltb, eqb, get_or, Float}
-use Rattle.std.specs.Float.Ieee.{neg, lt, eq, to_unsigned}
+use Rattle.std.specs.Prelude.{ℕ, zero, suc, ◌+◌, ◌*◌, Bool, true, ◌&&◌, cond, List, [], ◌∷◌, ◌++◌, ltb, eqb, get_or, Float}
 use Rattle.number.specs.Ops.{dec}
 use Rattle.number.specs.Number.{about_of}
 use Rattle.fields.specs.Fields.{whole_of, nat_of, is_whole, double_at}
 use Rattle.state.specs.declared.Termination.{Termination}
-use Rattle.state.specs.declared.Termination.TheVariants.{Nothing, Rest, MaxTime, MaxImpacts}
+use Rattle.state.specs.declared.Termination.TheVariants.{Rest, MaxTime, MaxImpacts}
+use Rattle.std.specs.Prelude.{Option, Some, None}
 use Rattle.board.specs.declared.Board.{Board}
 use Rattle.board.specs.declared.Entry.{Entry}
 use Rattle.board.specs.Inner.{none}
@@ -22,15 +22,15 @@ abbrev pub board_length : ℕ
 board_length = start 256
 
 -- the number of a termination: 0 none, 1 rest, 2 time, 3 impacts, as in a settle's result
-unfoldable pub number_of : Termination → ℕ
-number_of Nothing = 0
-number_of Rest = 1
-number_of MaxTime = 2
-number_of MaxImpacts = 3
+unfoldable pub number_of : Option Termination → ℕ
+number_of None = 0
+number_of (Some Rest) = 1
+number_of (Some MaxTime) = 2
+number_of (Some MaxImpacts) = 3
 
 -- and the termination of a number
-unfoldable pub termination_of : ℕ → Termination
-termination_of n = cond (eqb n 1) Rest (cond (eqb n 2) MaxTime (cond (eqb n 3) MaxImpacts Nothing))
+unfoldable pub termination_of : ℕ → Option Termination
+termination_of n = cond (eqb n 1) (Some Rest) (cond (eqb n 2) (Some MaxTime) (cond (eqb n 3) (Some MaxImpacts) None))
 
 -- an entry that begins at o: shot (u32), bay from 0 to 7, a termination's number from t on, contacts (u32), x, z within ±1,000,000
 unfoldable pub entry_ok : List Float → ℕ → ℕ → Bool

@@ -1,27 +1,23 @@
 -- Statements. A board as doubles is read back as it was, for every board that the functions of crates/board make. Assumes nothing.
 use Prim.Native.Nat.{ℕ, zero, suc, ◌+◌, ◌*◌, ◌≤◌, ◌<◌}
-use Rattle.std.proofs.Common.{eq-or-lt_of_le, ◌∙◌, sym, inl, inr, le→leb, ltb→lt, take-suc, get_or-take}
+use Rattle.std.proofs.Common.{eq-or-lt_of_le, ◌∙◌, sym, inl, inr, ltb→lt, take-suc, get_or-take}
 use native.Mathlib.Omega.{arith}
-use Rattle.std.specs.Prelude.{◌≡◌, ◌⊎◌, Bool, not, ◌&&◌, T, leb, ltb, take, drop, replicate, pos, Float}
+use Rattle.std.specs.Prelude.{◌≡◌, ◌⊎◌, Bool, ◌&&◌, T, ltb, take, drop, replicate, Float}
 use Rattle.std.proofs.Math.Path.{refl, ap}
 use Rattle.std.proofs.Math.Bool.{true, false, cond}
 use mathlib.Core.List.{List, [], ◌∷◌, ◌++◌}
 use Rattle.std.proofs.Math.ListN.{length, get_or, length-append, get_or-append}
 use Rattle.std.proofs.lemmas.List.{length-replicate}
 use Rattle.std.proofs.Math.Seq.{get_or-append-add, take_all, length-take-le}
-use Rattle.std.specs.Float.Ieee.{nan, lt, le, eq, neg, round, of_int, in_float, to_unsigned}
-use Rattle.std.specs.Float.{inf, fin, binary64}
+use Rattle.std.specs.Float.Ieee.{nan, lt, le, eq, neg, round}
 use Rattle.std.specs.Float.Ieee.Bits.{is_true}
-use Rattle.std.specs.Float.Ieee.Exact.{HasValue}
-use Rattle.std.specs.Float.Ieee.Back.{round_whole, unsigned_back}
-use Rattle.std.specs.Float.Ieee.Order.{round_mono}
 use Rattle.number.specs.Ops.{dec}
-use Rattle.number.specs.Number.{about_of, within_of, finite_of}
-use Rattle.number.specs.Order.{eq_self, lt-le_trans, le_lt_trans}
-use Rattle.fields.specs.Fields.{whole_of, nat_of, is_whole, double_at}
+use Rattle.number.specs.Number.{about_of, within_of}
+use Rattle.fields.specs.Fields.{whole_of, double_at}
 use Rattle.fields.specs.WholeBack.{nat_whole, whole_is_whole}
 use Rattle.state.specs.declared.Termination.{Termination}
-use Rattle.state.specs.declared.Termination.TheVariants.{Nothing, Rest, MaxTime, MaxImpacts}
+use Rattle.state.specs.declared.Termination.TheVariants.{Rest, MaxTime, MaxImpacts}
+use Rattle.std.specs.Prelude.{Option, Some, None}
 use Rattle.board.specs.declared.Board.{Board}
 use Rattle.board.specs.declared.Entry.{Entry}
 use Rattle.board.specs.Rules.{is_before, insert}
@@ -100,7 +96,7 @@ abbrev pub Kept : Entry → Type 0
 Kept e = Numbers e × (InBay e × Near e)
 
 -- a run that ended: 1 to 3 is its termination's number
-abbrev pub Ended : Termination → Type 0
+abbrev pub Ended : Option Termination → Type 0
 Ended t = 1 ≤ number_of t
 
 -- what holds of every board that calls made: 256 places, a count of at most 256, a pin that passed test 9, such an entry in each place, those past
@@ -112,19 +108,19 @@ pub record Held (b : Board) : Type 0 where
   pub kept : All Kept b.entries
   pub ended : All (λ (e : Entry). Ended e.termination) (listing b)
 
-number_most : (t : Termination) → number_of t ≤ 3
+number_most : (t : Option Termination) → number_of t ≤ 3
 unfolding number_of
-number_most Nothing = omega arith
-number_most Rest = omega arith
-number_most MaxTime = omega arith
-number_most MaxImpacts = omega arith
+number_most None = omega arith
+number_most (Some Rest) = omega arith
+number_most (Some MaxTime) = omega arith
+number_most (Some MaxImpacts) = omega arith
 
-pub number_back : (t : Termination) → termination_of (number_of t) ≡ t
+pub number_back : (t : Option Termination) → termination_of (number_of t) ≡ t
 unfolding number_of termination_of
-number_back Nothing = refl
-number_back Rest = refl
-number_back MaxTime = refl
-number_back MaxImpacts = refl
+number_back None = refl
+number_back (Some Rest) = refl
+number_back (Some MaxTime) = refl
+number_back (Some MaxImpacts) = refl
 
 all_at : (P : Entry → Type 0) (l : List Entry) (i : ℕ) (d : Entry) → All P l → i < length l → P (get_or l i d)
 unfolding All

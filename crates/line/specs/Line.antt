@@ -1,7 +1,8 @@
 -- Definitions. The line that the program settle prints (01, "Lists and the rest of the shop" and "Bench shots"), as bytes in ASCII.
 use Rattle.std.specs.Prelude.{ℕ, ◌&&◌, cond, List, [], ◌∷◌, ◌++◌, leb, length, drop}
-use Rattle.ground.specs.declared.Settled.{Settled}
+use Rattle.ground.specs.Settle.{Settled}
 use Rattle.state.specs.declared.Termination.{Termination}
+use Rattle.std.specs.Prelude.{Option}
 use Rattle.text.specs.Text.{decimal_of, word_of}
 
 -- ---- words
@@ -27,7 +28,7 @@ abbrev pub line_end : List ℕ
 line_end = 10 ∷ []
 
 -- " -" where nothing ended it (20 to 23), " rest", " time", " impacts"
-unfoldable pub termination_of : Termination → List ℕ
+unfoldable pub termination_of : Option Termination → List ℕ
 termination_of t = (32 ∷ []) ++ word_of t
 
 -- " contacts C points P steps S"

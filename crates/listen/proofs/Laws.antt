@@ -5,11 +5,13 @@ use native.Mathlib.Numerals.{add-one}
 use native.Mathlib.Omega.{arith}
 use mathlib.Core.Path.{◌≡◌, refl, ap, ◌∙◌, sym, subst}
 use mathlib.Core.Bool.{Bool, true, false, ◌&&◌}
-use mathlib.Core.List.{List, [], ◌∷◌}
+use mathlib.Core.List.{List, [], ◌∷◌, append_assoc}
 use mathlib.Core.Logic.{◌⊎◌, inl, inr}
 use lib.Dec.{T, T_not, leb, ltb}
-use lib.ListN.{length, drop, get_or, set, replicate, drop_of_length-le}
-use lib.Seq.{sets, drop-cons, get_or-drop}
+use lib.ListN.{length, drop, get_or, replicate, length-take, length-drop, drop_of_length-le}
+use lib.Seq.{sets, sets-eq, drop-drop, drop-cons, get_or-drop}
+use Rattle.std.proofs.lemmas.List.{length-replicate}
+use borrow.Rule.Slice.PartMut.{put_mid, mid_of}
 use lib.Ieee.{Float, nan}
 use borrow.Author.Tests.{le-leb, lt-leb, leb-true, leb-false, ltb-true, ltb-false}
 use Rattle.listen.specs.Listen.{firsts, time_ok, in_order, times_ok, contacts_whole, all_times_ok, tolerance_ok, refusal_of}
@@ -59,12 +61,13 @@ counted len n = go (leb n (len / 20)) refl
         past : len / 20 < n → len < n * 20
         past h = omega arith
 
--- ---- one mark, written to before an index
-pub fill_on : (l : List ℕ) (i n k : ℕ) (t : List ℕ) → i < n → sets l i (replicate (n - i) k) ≡ t → sets (set l i k) (i + 1) (replicate (n - (i + 1)) k) ≡ t
-fill_on l i n k t h e = let m : n - i ≡ suc (n - suc i) = omega arith in rw add-one (rw m at e)
-
-pub fill_end : (l : List ℕ) (i n k : ℕ) (t : List ℕ) → n ≤ i → sets l i (replicate (n - i) k) ≡ t → l ≡ t
-fill_end l i n k t h e = let m : n - i ≡ 0 = omega arith in rw m at e
+-- ---- one mark, filled in up to an index
+pub filled : (l : List ℕ) (i n k : ℕ) → i ≤ n → n ≤ length l → {ys : List ℕ} → ys ≡ replicate (length (mid_of i (n - i) l)) k
+    → put_mid i (n - i) l ys ≡ sets l i (replicate (n - i) k)
+filled l i n k h j e =
+    let o : length (mid_of i (n - i) l) ≡ n - i = simp (length-take, length-drop) (omega arith) in
+    let m : length (replicate (n - i) k) ≡ n - i = length-replicate (n - i) k in
+    rw (e, o) (sym (sets-eq (replicate (n - i) k) l i (omega arith) ∙ rw (m, ← drop-drop (n - i) i l, append_assoc)))
 
 -- ---- a test of two orders
 pub both : (a b c d : ℕ) → ltb a b && ltb c d ≡ true → (a < b) × (c < d)

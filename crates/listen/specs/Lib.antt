@@ -1,3 +1,4 @@
+pub mod Answers
 pub mod Listen
 pub mod Inner
 pub mod Turns

@@ -1,5 +1,5 @@
 -- Definitions. The bay's microphones (02, paper 14): the times heard, held against a run's contact times.
-use Rattle.std.specs.Prelude.{ℕ, zero, suc, ◌+◌, ◌*◌, ◌%◌, Bool, true, not, ◌&&◌, List, [], ◌∷◌, ◌++◌, leb, eqb, length, drop, get_or, Float}
+use Rattle.std.specs.Prelude.{ℕ, zero, suc, ◌+◌, ◌*◌, ◌%◌, Bool, true, not, ◌&&◌, List, [], ◌∷◌, ◌++◌, leb, eqb, length, drop, get_or, Float, Result, Ok, Err}
 use Rattle.std.specs.Float.{nan}
 use Rattle.std.specs.Float.Ieee.{lt, le}
 use Rattle.number.specs.Ops.{◌⊖◌, dec}
@@ -7,7 +7,10 @@ use Rattle.std.specs.Prelude.{if◌then◌else◌}
 use Rattle.number.specs.Number.{abs_of, within_of}
 use Rattle.listen.specs.declared.Mark.{Mark}
 use Rattle.listen.specs.declared.Mark.TheVariants.{Paired, HeardOnly, ComputedOnly}
-use Rattle.listen.specs.declared.Heard.{Heard}
+use Rattle.listen.specs.declared.Totals.{Totals}
+use Rattle.listen.specs.Answers.{Heard}
+use Rattle.refusal.specs.declared.Refusal.{Refusal}
+use Rattle.refusal.specs.Refusal.{number_of}
 
 -- ---- the times
 
@@ -110,6 +113,11 @@ listened h marks = record { heard = h; marks = marks }
 
 abbrev pub heard_of : ℕ → ℕ → ℕ → ℕ → Heard
 heard_of answer pairs heard_only computed_only = record { answer = answer; pairs = pairs; heard_only = heard_only; computed_only = computed_only }
+
+-- what `listen` returns, so given: where it hears nothing, the totals are 0
+abbrev pub heard_by : Result Totals Refusal → Heard
+heard_by (Ok t) = heard_of 0 t.pairs t.heard_only t.computed_only
+heard_by (Err r) = heard_of (number_of r) 0 0 0
 
 -- of a walk: marks "stand for the heard times first, then the contacts; marks past those stay"; the totals count the marks
 unfoldable pub marked : List Mark → List ℕ → Listen

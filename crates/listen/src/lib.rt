@@ -4,24 +4,26 @@
 ghost use Rattle.std.specs.Prelude.{◌≡◌, ◌+◌, ◌-◌, ◌*◌, ◌≤◌, ◌<◌, length, replicate};
 ghost use Rattle.std.proofs.lemmas.List.Edits.{sets};
 ghost use Rattle.listen.specs.Listen.{record_width, firsts, contact_times, time_ok, times_ok, contacts_whole, all_times_ok, tolerance_ok, refusal_of};
-ghost use Rattle.listen.specs.Listen.{near as near_of, listened, listen_of};
+ghost use Rattle.listen.specs.Listen.{near as near_of, listened, heard_by, listen_of};
+ghost use Rattle.refusal.specs.Refusal.{answer_by};
 ghost use Rattle.listen.specs.Inner.{front_of, Walked};
+
+use refusal::Refusal;
 
 // The numbers of a contact in a contact list.
 const CONTACT_WIDTH: usize = 20;
 
-// What one turn of the walk marks.
+// What one turn of the walk marks, and the byte that stands for it in the mark list.
 #[derive(Clone, Copy)]
 enum Mark {
-    Paired,
-    HeardOnly,
-    ComputedOnly,
+    Paired = 0,
+    HeardOnly = 1,
+    ComputedOnly = 2,
 }
 
-// The answer, and how many pairs, times heard only and contacts computed only there are.
+// How many pairs, times heard only and contacts computed only there are.
 #[derive(Clone, Copy)]
-pub struct Heard {
-    pub answer: u32,
+pub struct Totals {
     pub pairs: usize,
     pub heard_only: usize,
     pub computed_only: usize,
@@ -41,14 +43,12 @@ fn times_ok(list: &[f64], width: usize, n: usize) -> bool
     ensures { result ≡ times_ok (firsts width n list.now) }
 {
     let mut before = 0.0;
-    let mut i = 0;
-    while i < n {
+    for i in 0..n {
         let x = list[i * width];
         if !time_ok(before, x) {
             return false;
         }
         before = x;
-        i += 1;
     }
     true
 }
@@ -63,8 +63,7 @@ fn all_times_ok(heard: &[f64], contacts: &[f64], n: usize) -> bool
     requires { n * record_width ≤ length contacts.now }
     ensures { result ≡ all_times_ok heard.now contacts.now n }
 {
-    let ok = times_ok(heard, 1, heard.len());
-    (heard.len() <= 256) & ok & times_ok(contacts, CONTACT_WIDTH, n)
+    (heard.len() <= 256) & times_ok(heard, 1, heard.len()) & times_ok(contacts, CONTACT_WIDTH, n)
 }
 
 fn tolerance_ok(t: f64) -> bool
@@ -73,27 +72,34 @@ fn tolerance_ok(t: f64) -> bool
     number::within(0.0, 0.1, t)
 }
 
-// The first test that fails, or 0.
-fn refusal(heard: &[f64], contacts: &[f64], n: usize, tolerance: f64, room: usize) -> u32
-    ensures { result ≡ refusal_of heard.now contacts.now n tolerance room }
+// The first test that fails.
+fn test(
+    heard: &[f64],
+    contacts: &[f64],
+    n: usize,
+    tolerance: f64,
+    room: usize,
+) -> Result<(), Refusal>
+    ensures { answer_by result ≡ refusal_of heard.now contacts.now n tolerance room }
 {
     if !contacts_whole(contacts.len(), n) {
-        return 8;
+        return Err(Refusal::ListLength);
     }
     if !all_times_ok(heard, contacts, n) {
-        return 39;
+        return Err(Refusal::Times);
     }
     if !tolerance_ok(tolerance) {
-        return 40;
+        return Err(Refusal::Tolerance);
     }
     if room < heard.len() + n {
-        return 41;
+        return Err(Refusal::MarksLength);
     }
-    0
+    Ok(())
 }
 
 // ---- the walk
 
+#[tactic(auto, unfolding(crate::specs::Listen::near))]
 fn near(t: f64, h: f64, c: f64) -> bool
     ensures { result ≡ near_of t h c }
 {
@@ -101,6 +107,7 @@ fn near(t: f64, h: f64, c: f64) -> bool
 }
 
 // Near fronts are a pair; else the earlier one stands alone.
+#[tactic(auto, unfolding(crate::specs::Inner::front_of))]
 fn front(t: f64, h: f64, c: f64) -> Mark
     ensures { result ≡ front_of t h c }
 {
@@ -113,19 +120,7 @@ fn front(t: f64, h: f64, c: f64) -> Mark
     Mark::ComputedOnly
 }
 
-// Writes one mark from `from` to before `to`.
-fn fill(marks: &mut [u8], from: usize, to: usize, mark: u8)
-    requires { (from ≤ to) × (to ≤ length marks.old) }
-    ensures { marks.new ≡ sets marks.old from (replicate (to - from) mark) }
-{
-    let mut i = from;
-    while i < to {
-        marks[i] = mark;
-        i += 1;
-    }
-}
-
-// Marks the heard times and n contacts. Returns how many pairs there are.
+// Marks the heard times and n contacts. A turn moves along one list or both, so no iterator counts them. Returns how many pairs there are.
 fn walk(t: f64, heard: &[f64], contacts: &[f64], n: usize, marks: &mut [u8]) -> usize
     requires { (n * record_width ≤ length contacts.now) × (length heard.now + n ≤ length marks.old) }
     ensures { Walked t heard.now (contact_times n contacts.now) marks.old result marks.new }
@@ -138,24 +133,24 @@ fn walk(t: f64, heard: &[f64], contacts: &[f64], n: usize, marks: &mut [u8]) -> 
         let m = front(t, heard[i], contacts[j * CONTACT_WIDTH]);
         match m {
             Mark::Paired => {
-                marks[i] = 0;
-                marks[behind + j] = 0;
+                marks[i] = m as u8;
+                marks[behind + j] = m as u8;
                 i += 1;
                 j += 1;
                 pairs += 1;
             }
             Mark::HeardOnly => {
-                marks[i] = 1;
+                marks[i] = m as u8;
                 i += 1;
             }
             Mark::ComputedOnly => {
-                marks[behind + j] = 2;
+                marks[behind + j] = m as u8;
                 j += 1;
             }
         }
     }
-    fill(marks, i, behind, 1);
-    fill(marks, behind + j, behind + n, 2);
+    marks[i..behind].fill(Mark::HeardOnly as u8);
+    marks[behind + j..behind + n].fill(Mark::ComputedOnly as u8);
     pairs
 }
 
@@ -166,24 +161,15 @@ pub fn listen(
     count: u64,
     tolerance: f64,
     marks: &mut [u8],
-) -> Heard
-    ensures { listened result marks.new ≡ listen_of heard.now contacts.now count tolerance marks.old }
+) -> Result<Totals, Refusal>
+    ensures { listened (heard_by result) marks.new ≡ listen_of heard.now contacts.now count tolerance marks.old }
 {
     let n = count as usize;
-    let answer = refusal(heard, contacts, n, tolerance, marks.len());
-    if answer != 0 {
-        return Heard {
-            answer,
-            pairs: 0,
-            heard_only: 0,
-            computed_only: 0,
-        };
-    }
+    test(heard, contacts, n, tolerance, marks.len())?;
     let pairs = walk(tolerance, heard, contacts, n, marks);
-    Heard {
-        answer: 0,
+    Ok(Totals {
         pairs,
         heard_only: heard.len() - pairs,
         computed_only: n - pairs,
-    }
+    })
 }

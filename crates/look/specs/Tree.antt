@@ -1,11 +1,9 @@
 -- Definitions. The look tree: a definition that may look at a course, as its looks, its steps and its answer.
-use Rattle.std.specs.Prelude.{ℕ, List, [], ◌∷◌, Bool, true, false, Float}
+use Rattle.std.specs.Prelude.{ℕ, List, [], ◌∷◌, Bool, true, false, Float, Option, Some, None}
 use Rattle.look.specs.declared.Rect.{Rect}
 use Rattle.state.specs.declared.BallState.{BallState}
 use Rattle.state.specs.declared.Phase.{Phase}
 use Rattle.surface.specs.declared.GroundSample.{GroundSample}
-use Rattle.look.specs.declared.Look.{Look}
-use Rattle.look.specs.declared.Look.TheVariants.{Off, Saw}
 use Rattle.look.specs.Rect.{widen, spot_ok}
 
 -- a spot of 01: an x and a z
@@ -22,6 +20,10 @@ pub record Made : Type 0 where
   pub rolling : Bool
   pub evaluations : ℕ
 
+-- what comes of a look: the sample there, or none where the spot failed its test
+abbrev pub Look : Type 0
+Look = Option GroundSample
+
 -- It is done with an answer, or it looks at a spot and goes on by what comes of the look, or a step (01: one pass) is made.
 pub data Tree (A : Type 0) : Type 0 where
   done : A → Tree A
@@ -34,8 +36,8 @@ Oracle = Float → Float → GroundSample
 
 -- a spot is tested before the look: one that fails is not looked at
 abbrev pub answer : Bool → GroundSample → Look
-answer true s = Saw s
-answer false s = Off
+answer true s = Some s
+answer false s = None
 
 abbrev pub seen : Oracle → Float → Float → Look
 seen o x z = answer (spot_ok x z) (o x z)

@@ -1,67 +1,21 @@
 -- What the code's tests of a double say. Assumes nothing.
-use Rattle.std.proofs.Common.{◌≡◌, ℕ, ◌+◌, ◌-◌, ◌*◌, ◌/◌, ◌^◌, ◌<◌, ◌≤◌, Bool, true, false, cond, not, ◌&&◌, ◌||◌, T, eqb, ltb, ℤ, pos, sym, refl, ap, ◌∙◌, subst, true≢false, zero-le, zero-lt-suc, mul-pos, one-mul, zero-add, zero-mul, mul-one, arith, le-ltb}
-use mathlib.Core.Bool.{beq, false≢true}
-use lib.Dec.{eqb_refl}
-use lib.Ieee.{Float, nan, inf, fin, binary64, up, down, round, sum, sub, neg, eq, le, ne, is_nan, fits, of_bits, to_bits, size}
+use Rattle.std.proofs.Common.{◌≡◌, ℕ, ◌+◌, ◌-◌, ◌*◌, ◌/◌, ◌^◌, ◌<◌, ◌≤◌, true, false, cond, not, T, ltb, ℤ, pos, sym, refl, ap, ◌∙◌, subst, true≢false, zero-le, zero-lt-suc, mul-pos, one-mul, zero-add, zero-mul, mul-one, arith}
+use mathlib.Core.Bool.{false≢true}
+use lib.Ieee.{Float, nan, inf, fin, binary64, up, down, round, sub, neg, le, is_nan, fits, of_bits, to_bits, size}
 use lib.Ieee.Bits.{is_true, to_bits-lt}
 use lib.Ieee.Fits.{down_pos, neg-fits}
 use lib.Ieee.Scale.{round_same}
+use Rattle.std.specs.Float.{float_is_finite}
 use Rattle.number.specs.Number.{finite_of, signum_of, abs_of}
 use Rattle.number.specs.Order.{le→, →le}
 use Rattle.number.specs.Rounding.{round_self}
 
--- ---- x != x is the test for a NaN
-ne_self : (x : Float) → ne x x ≡ is_nan x
-unfolding ne is_nan
-ne_self nan = refl
-ne_self (inf true) = refl
-ne_self (inf false) = refl
-ne_self (fin true m e) = rw (is_true (eqb (m * up e * down e) (m * up e * down e)) (eqb_refl (m * up e * down e)))
-ne_self (fin false m e) = rw (is_true (eqb (m * up e * down e) (m * up e * down e)) (eqb_refl (m * up e * down e)))
-
-pub not_nan : (x : Float) → ne x x ≡ false → T (not (is_nan x))
-not_nan x h = subst (λ (b : Bool). T (not b)) (sym h ∙ ne_self x) tt
-
-pub is_nan_lem : (x : Float) → ne x x ≡ true → x ≡ nan
-unfolding is_nan
-is_nan_lem nan h = refl
-is_nan_lem (inf s) h = absurd (true≢false (sym h ∙ ne_self (inf s)))
-is_nan_lem (fin s m e) h = absurd (true≢false (sym h ∙ ne_self (fin s m e)))
-
--- ---- min and max take b by a test p, or where a is a NaN
-pub other : (a b : Float) (p : Bool) → (p || ne a a) ≡ true → b ≡ cond (is_nan a) b (cond p b a)
-other a b p h = go (is_nan a) p (ap (λ (q : Bool). p || q) (sym (ne_self a)) ∙ h)
-  where
-    go : (n p : Bool) → (p || n) ≡ true → b ≡ cond n b (cond p b a)
-    go true p h = refl
-    go false true h = refl
-    go false false h = absurd (true≢false (sym h))
-
-pub itself : (a b : Float) (p : Bool) → (p || ne a a) ≡ false → a ≡ cond (is_nan a) b (cond p b a)
-itself a b p h = go (is_nan a) p (ap (λ (q : Bool). p || q) (sym (ne_self a)) ∙ h)
-  where
-    go : (n p : Bool) → (p || n) ≡ false → a ≡ cond n b (cond p b a)
-    go true true h = absurd (true≢false h)
-    go true false h = absurd (true≢false h)
-    go false true h = absurd (true≢false h)
-    go false false h = refl
-
--- ---- x - x is a zero where x is finite, and a NaN otherwise
-less_itself : (s : Bool) (a c : ℕ) → 0 < c → eq (sum binary64 s a (not s) a c) (of_bits binary64 0) ≡ true
-unfolding sum eq of_bits
-less_itself s a c h = go s (ltb a a) (le-ltb a a (omega arith)) (a - a) (omega arith)
-  where
-    go : (s b : Bool) → b ≡ false → (d : ℕ) → d ≡ 0 → eq (cond (beq s (not s)) (round binary64 s (a + a) c)
-        (cond b (round binary64 (not s) d c) (round binary64 (s && b) d c))) (fin false 0 (pos 0)) ≡ true
-    go true b p d q = rw (p, q, round_same binary64 false 0 c 0 1 h (omega arith) (omega arith)) (unfold round in refl)
-    go false b p d q = rw (p, q, round_same binary64 false 0 c 0 1 h (omega arith) (omega arith)) (unfold round in refl)
-
-pub finite_test : (x : Float) → eq (sub binary64 x x) (of_bits binary64 0) ≡ finite_of x
-unfolding sub eq
-finite_test nan = refl
-finite_test (inf true) = refl
-finite_test (inf false) = refl
-finite_test (fin s m e) = less_itself s (m * up e * down e) (down e * down e) (mul-pos (down_pos e) (down_pos e))
+-- ---- what the library calls finite
+pub finite_same : (x : Float) → float_is_finite x ≡ finite_of x
+unfolding float_is_finite
+finite_same nan = refl
+finite_same (inf s) = refl
+finite_same (fin s m e) = refl
 
 -- ---- the sign is the highest bit
 top_bit : (q k : ℕ) → 9223372036854775808 + k + q ≡ 9223372036854775808 + (0 + k + q)
@@ -94,9 +48,11 @@ minus_sign (inf false) f n h = absurd (omega arith)
 minus_sign (fin true m e) f n h = refl
 minus_sign (fin false m e) f n h = absurd (let l : 9223372036854775808 ≤ to_bits binary64 (fin false m e) = h in omega (arith, low_bits m e f))
 
-pub nan_sign : (x : Float) → ne x x ≡ true → x ≡ signum_of x
-unfolding signum_of
-nan_sign x h = subst (λ (y : Float). y ≡ signum_of y) (sym (is_nan_lem x h)) refl
+pub nan_sign : (x : Float) → is_nan x ≡ true → x ≡ signum_of x
+unfolding signum_of is_nan
+nan_sign nan h = refl
+nan_sign (inf s) h = absurd (true≢false (sym h))
+nan_sign (fin s m e) h = absurd (true≢false (sym h))
 
 -- ---- the magnitude
 zero_less : (a b c : ℕ) → a ≡ 0 → b ≡ 0 → cond (ltb b a) (round binary64 true (a - b) c) (round binary64 false (b - a) c)

@@ -1,5 +1,6 @@
 pub mod Ops
 pub mod Number
+pub mod Nan
 pub mod Order
 pub mod Rounding
 pub mod Ranges

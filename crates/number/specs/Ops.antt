@@ -1,5 +1,5 @@
 -- Definitions. The operations of f64, each rounded to the nearest double, and decimal constants.
-use Rattle.std.specs.Prelude.{ℕ, Bool, true, false, Float}
+use Rattle.std.specs.Prelude.{ℕ, false, Float}
 use Rattle.std.specs.Float.{binary64}
 use Rattle.std.specs.Float.Ieee.{round, add, sub, mul, div}
 

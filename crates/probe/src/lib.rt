@@ -97,79 +97,81 @@ pub extern "C" fn probe_signum(x: f64) -> f64
 }
 
 // Kind 1 is Penner2002, any other double Constant(e).
+#[tactic(auto, using(number::proofs::Steps::steps), unfolding(crate::specs::Rows::restitution_of))]
 fn restitution_of(kind: f64, e: f64) -> Restitution
     ensures { result ≡ restitution_of kind e }
 {
     if kind == 1.0 {
-        return Restitution::Penner2002;
+        Restitution::Penner2002
+    } else {
+        Restitution::Constant(e)
     }
-    Restitution::Constant(e)
 }
 
 // Law 1 is Quadratic, 2 Exponential, any other double Constant.
+#[tactic(auto, using(number::proofs::Steps::steps), unfolding(crate::specs::Rows::roll_law_of))]
 fn roll_law_of(law: f64, v_ref: f64) -> RollLaw
     ensures { result ≡ roll_law_of law v_ref }
 {
     if law == 1.0 {
-        return RollLaw::Quadratic { v_ref };
+        RollLaw::Quadratic { v_ref }
+    } else if law == 2.0 {
+        RollLaw::Exponential { v_ref }
+    } else {
+        RollLaw::Constant
     }
-    if law == 2.0 {
-        return RollLaw::Exponential { v_ref };
-    }
-    RollLaw::Constant
 }
 
 // Kind, e, mu_slide, mu_roll, law, v_ref, compliance, pivot.
+#[tactic(auto, unfolding(crate::specs::Rows::surface_at))]
 fn surface_at(s: &[f64], o: usize) -> Surface
     requires { o + 8 ≤ length s.now }
     ensures { result ≡ surface_at s.now o }
 {
-    let restitution = restitution_of(s[o], s[o + 1]);
-    let roll_law = roll_law_of(s[o + 4], s[o + 5]);
     Surface {
-        restitution,
+        restitution: restitution_of(s[o], s[o + 1]),
         mu_slide: s[o + 2],
         mu_roll: s[o + 3],
-        roll_law,
+        roll_law: roll_law_of(s[o + 4], s[o + 5]),
         compliance: s[o + 6],
         pivot: s[o + 7],
     }
 }
 
 // Height, normal, surface.
+#[tactic(auto, unfolding(crate::specs::Rows::sample_at))]
 fn sample_at(s: &[f64], o: usize) -> GroundSample
     requires { o + 12 ≤ length s.now }
     ensures { result ≡ sample_at s.now o }
 {
-    let normal = fields::vec_at(s, o + 1);
-    let surface = surface_at(s, o + 4);
     GroundSample {
         height: s[o],
-        normal,
-        surface,
+        normal: fields::vec_at(s, o + 1),
+        surface: surface_at(s, o + 4),
         number: 0,
     }
 }
 
 // Pos, vel.
+#[tactic(auto, unfolding(crate::specs::Rows::flight_at))]
 fn flight_at(s: &[f64], o: usize) -> State
     requires { o + 6 ≤ length s.now }
     ensures { result ≡ flight_at s.now o }
 {
-    let pos = fields::vec_at(s, o);
-    let vel = fields::vec_at(s, o + 3);
-    State { pos, vel }
+    State {
+        pos: fields::vec_at(s, o),
+        vel: fields::vec_at(s, o + 3),
+    }
 }
 
+#[tactic(auto, using(number::proofs::Steps::steps), unfolding(crate::specs::Rows::truth_number))]
 fn truth_number(b: bool) -> f64
     ensures { result ≡ truth_number b }
 {
-    if b {
-        return 1.0;
-    }
-    0.0
+    if b { 1.0 } else { 0.0 }
 }
 
+#[tactic(auto, using(number::proofs::Steps::steps), unfolding(crate::specs::Rows::phase_number))]
 fn phase_number(phase: Phase) -> f64
     ensures { result ≡ phase_number phase }
 {
@@ -181,6 +183,7 @@ fn phase_number(phase: Phase) -> f64
 }
 
 // Writes the record over all of `out`.
+#[tactic(auto, using(crate::specs::Doors::all_written))]
 fn fill(out: &mut [f64], rec: &[f64])
     requires { length out.old ≡ length rec.now }
     ensures { out.new ≡ rec.now }
@@ -192,91 +195,72 @@ fn fill_one(out: &mut [f64], x: f64)
     requires { length out.old ≡ 1 }
     ensures { out.new ≡ x ∷ [] }
 {
-    let rec = [x];
-    fill(out, &rec);
+    fill(out, &[x]);
 }
 
 fn fill_flight(out: &mut [f64], s: State)
     requires { length out.old ≡ 6 }
     ensures { out.new ≡ flight_fields s }
 {
-    let p = s.pos;
-    let v = s.vel;
-    let rec = [p.x, p.y, p.z, v.x, v.y, v.z];
-    fill(out, &rec);
+    fill(out, &[s.pos.x, s.pos.y, s.pos.z, s.vel.x, s.vel.y, s.vel.z]);
 }
 
 fn fill_state(out: &mut [f64], s: BallState)
     requires { length out.old ≡ 10 }
     ensures { out.new ≡ state_fields s }
 {
-    let p = s.pos;
-    let v = s.vel;
-    let w = s.spin;
-    let rec = [s.time, p.x, p.y, p.z, v.x, v.y, v.z, w.x, w.y, w.z];
-    fill(out, &rec);
+    fill(out, &fields::state_numbers(&s));
 }
 
 fn fill_stepped(out: &mut [f64], step: Stepped)
     requires { length out.old ≡ 12 }
     ensures { out.new ≡ stepped_fields step }
 {
-    let s = step.state;
-    let p = s.pos;
-    let v = s.vel;
-    let w = s.spin;
-    let phase = step.phase;
-    let number = phase_number(phase);
-    let rolling = truth_number(step.rolling);
-    let rec = [
-        s.time, p.x, p.y, p.z, v.x, v.y, v.z, w.x, w.y, w.z, number, rolling,
-    ];
-    fill(out, &rec);
+    fields::put_state(out, 0, step.state);
+    fields::put(
+        out,
+        10,
+        &[phase_number(step.phase), truth_number(step.rolling)],
+    );
 }
 
 // Pos, vel, spin.
+#[tactic(auto, unfolding(crate::specs::Rows::motion_at))]
 fn motion_at(s: &[f64], o: usize) -> Motion
     requires { o + 9 ≤ length s.now }
     ensures { result ≡ motion_at s.now o }
 {
-    let pos = fields::vec_at(s, o);
-    let vel = fields::vec_at(s, o + 3);
-    let spin = fields::vec_at(s, o + 6);
-    Motion { pos, vel, spin }
+    Motion {
+        pos: fields::vec_at(s, o),
+        vel: fields::vec_at(s, o + 3),
+        spin: fields::vec_at(s, o + 6),
+    }
 }
 
 // N, g_t, friction, radius, k, pivot_accel.
+#[tactic(auto, unfolding(crate::specs::Rows::patch_at))]
 fn patch_at(s: &[f64], o: usize) -> Patch
     requires { o + 12 ≤ length s.now }
     ensures { result ≡ patch_at s.now o }
 {
-    let n = fields::vec_at(s, o);
-    let g_t = fields::vec_at(s, o + 3);
-    let pivot_accel = fields::vec_at(s, o + 9);
     Patch {
-        n,
-        g_t,
+        n: fields::vec_at(s, o),
+        g_t: fields::vec_at(s, o + 3),
         friction: s[o + 6],
         radius: s[o + 7],
         k: s[o + 8],
-        pivot_accel,
+        pivot_accel: fields::vec_at(s, o + 9),
     }
 }
 
 // The surface GREEN with this compliance.
+#[tactic(auto, unfolding(crate::specs::Rows::green_with))]
 fn green_with(compliance: f64) -> Surface
     ensures { result ≡ green_with compliance }
 {
-    let g = Surface::green();
-    let restitution = g.restitution;
-    let roll_law = g.roll_law;
     Surface {
-        restitution,
-        mu_slide: g.mu_slide,
-        mu_roll: g.mu_roll,
-        roll_law,
         compliance,
-        pivot: g.pivot,
+        ..Surface::green()
     }
 }
 
@@ -284,8 +268,7 @@ fn fill_vec(out: &mut [f64], v: DVec3)
     requires { length out.old ≡ 3 }
     ensures { out.new ≡ vec_fields v }
 {
-    let rec = [v.x, v.y, v.z];
-    fill(out, &rec);
+    fill(out, &[v.x, v.y, v.z]);
 }
 
 fn fill_truth(out: &mut [f64], b: bool)
@@ -299,18 +282,16 @@ fn fill_cd_cl(out: &mut [f64], c: CdCl)
     requires { length out.old ≡ 2 }
     ensures { out.new ≡ cd_cl_fields c }
 {
-    let rec = [c.cd, c.cl];
-    fill(out, &rec);
+    fill(out, &[c.cd, c.cl]);
 }
 
 fn fill_slid(out: &mut [f64], slid: Slid)
     requires { length out.old ≡ 11 }
     ensures { out.new ≡ slid_fields slid }
 {
-    let m = slid.motion;
-    let p = m.pos;
-    let v = m.vel;
-    let w = m.spin;
+    let p = slid.motion.pos;
+    let v = slid.motion.vel;
+    let w = slid.motion.spin;
     let rolls = truth_number(slid.rolls);
     let rec = [
         p.x, p.y, p.z, v.x, v.y, v.z, w.x, w.y, w.z, slid.time, rolls,
@@ -323,8 +304,7 @@ fn fill_aero(out: &mut [f64], a: AeroParams)
     ensures { out.new ≡ aero_fields a }
 {
     let axis = a.spin_axis;
-    let rec = [axis.x, axis.y, axis.z, a.spin_rate, a.spin_decay];
-    fill(out, &rec);
+    fill(out, &[axis.x, axis.y, axis.z, a.spin_rate, a.spin_decay]);
 }
 
 fn fill_locked(out: &mut [f64], locked: Locked)
@@ -333,19 +313,16 @@ fn fill_locked(out: &mut [f64], locked: Locked)
 {
     let v = locked.vel;
     let w = locked.spin;
-    let rec = [v.x, v.y, v.z, w.x, w.y, w.z];
-    fill(out, &rec);
+    fill(out, &[v.x, v.y, v.z, w.x, w.y, w.z]);
 }
 
 // Doors to functions of structs (compare/DOORS.md): 0 with all of `out` written, or 100 with nothing touched for a wrong length.
+#[tactic(auto, using(crate::proofs::Doors::ways), unfolding(crate::specs::Doors::impact_row))]
 #[unsafe(no_mangle)]
 pub extern "C" fn probe_impact(input: &[f64], out: &mut [f64]) -> u32
     ensures { opened result out.new ≡ door_of 34 10 impact_row input.now out.old }
 {
-    if input.len() != 34 {
-        return 100;
-    }
-    if out.len() != 10 {
+    if input.len() != 34 || out.len() != 10 {
         return 100;
     }
     let state = fields::state_at(input, 0);
@@ -355,14 +332,12 @@ pub extern "C" fn probe_impact(input: &[f64], out: &mut [f64]) -> u32
     0
 }
 
+#[tactic(auto, using(crate::proofs::Doors::ways), unfolding(crate::specs::Doors::contact_step_row))]
 #[unsafe(no_mangle)]
 pub extern "C" fn probe_contact_step(input: &[f64], out: &mut [f64]) -> u32
     ensures { opened result out.new ≡ door_of 37 12 contact_step_row input.now out.old }
 {
-    if input.len() != 37 {
-        return 100;
-    }
-    if out.len() != 12 {
+    if input.len() != 37 || out.len() != 12 {
         return 100;
     }
     let state = fields::state_at(input, 0);
@@ -375,14 +350,12 @@ pub extern "C" fn probe_contact_step(input: &[f64], out: &mut [f64]) -> u32
     0
 }
 
+#[tactic(auto, using(crate::proofs::Doors::ways), unfolding(crate::specs::Doors::flight_step_row))]
 #[unsafe(no_mangle)]
 pub extern "C" fn probe_flight_step(input: &[f64], out: &mut [f64]) -> u32
     ensures { opened result out.new ≡ door_of 24 6 flight_step_row input.now out.old }
 {
-    if input.len() != 24 {
-        return 100;
-    }
-    if out.len() != 6 {
+    if input.len() != 24 || out.len() != 6 {
         return 100;
     }
     let ball = fields::ball_at(input, 0);
@@ -395,14 +368,12 @@ pub extern "C" fn probe_flight_step(input: &[f64], out: &mut [f64]) -> u32
     0
 }
 
+#[tactic(auto, using(crate::proofs::Doors::ways), unfolding(crate::specs::Doors::coefficient_at_row))]
 #[unsafe(no_mangle)]
 pub extern "C" fn probe_coefficient_at(input: &[f64], out: &mut [f64]) -> u32
     ensures { opened result out.new ≡ door_of 3 1 coefficient_at_row input.now out.old }
 {
-    if input.len() != 3 {
-        return 100;
-    }
-    if out.len() != 1 {
+    if input.len() != 3 || out.len() != 1 {
         return 100;
     }
     let restitution = restitution_of(input[0], input[1]);
@@ -410,21 +381,18 @@ pub extern "C" fn probe_coefficient_at(input: &[f64], out: &mut [f64]) -> u32
     0
 }
 
+#[tactic(auto, using(crate::proofs::Doors::ways))]
 #[unsafe(no_mangle)]
 pub extern "C" fn probe_acceleration(input: &[f64], out: &mut [f64]) -> u32
     ensures { opened result out.new ≡ door_of 20 3 acceleration_row input.now out.old }
 {
-    if input.len() != 20 {
-        return 100;
-    }
-    if out.len() != 3 {
+    if input.len() != 20 || out.len() != 3 {
         return 100;
     }
     let ball = fields::ball_at(input, 0);
     let vel = fields::vec_at(input, 12);
-    let spin_axis = fields::vec_at(input, 15);
     let aero = AeroParams {
-        spin_axis,
+        spin_axis: fields::vec_at(input, 15),
         spin_rate: input[18],
         spin_decay: 0.04,
     };
@@ -432,14 +400,12 @@ pub extern "C" fn probe_acceleration(input: &[f64], out: &mut [f64]) -> u32
     0
 }
 
+#[tactic(auto, using(crate::proofs::Doors::ways), unfolding(crate::specs::Doors::cd_cl_row))]
 #[unsafe(no_mangle)]
 pub extern "C" fn probe_cd_cl(input: &[f64], out: &mut [f64]) -> u32
     ensures { opened result out.new ≡ door_of 15 2 cd_cl_row input.now out.old }
 {
-    if input.len() != 15 {
-        return 100;
-    }
-    if out.len() != 2 {
+    if input.len() != 15 || out.len() != 2 {
         return 100;
     }
     let ball = fields::ball_at(input, 0);
@@ -447,14 +413,12 @@ pub extern "C" fn probe_cd_cl(input: &[f64], out: &mut [f64]) -> u32
     0
 }
 
+#[tactic(auto, using(crate::proofs::Doors::ways), unfolding(crate::specs::Doors::slide_row))]
 #[unsafe(no_mangle)]
 pub extern "C" fn probe_slide(input: &[f64], out: &mut [f64]) -> u32
     ensures { opened result out.new ≡ door_of 24 11 slide_row input.now out.old }
 {
-    if input.len() != 24 {
-        return 100;
-    }
-    if out.len() != 11 {
+    if input.len() != 24 || out.len() != 11 {
         return 100;
     }
     let patch = patch_at(input, 0);
@@ -466,14 +430,12 @@ pub extern "C" fn probe_slide(input: &[f64], out: &mut [f64]) -> u32
     0
 }
 
+#[tactic(auto, using(crate::proofs::Doors::ways, number::proofs::Steps::zero), unfolding(crate::specs::Doors::onto_surface_row))]
 #[unsafe(no_mangle)]
 pub extern "C" fn probe_onto_surface(input: &[f64], out: &mut [f64]) -> u32
     ensures { opened result out.new ≡ door_of 27 10 onto_surface_row input.now out.old }
 {
-    if input.len() != 27 {
-        return 100;
-    }
-    if out.len() != 10 {
+    if input.len() != 27 || out.len() != 10 {
         return 100;
     }
     let state = fields::state_at(input, 0);
@@ -487,14 +449,12 @@ pub extern "C" fn probe_onto_surface(input: &[f64], out: &mut [f64]) -> u32
     0
 }
 
+#[tactic(auto, using(crate::proofs::Doors::ways), unfolding(crate::specs::Doors::hermite_row))]
 #[unsafe(no_mangle)]
 pub extern "C" fn probe_hermite(input: &[f64], out: &mut [f64]) -> u32
     ensures { opened result out.new ≡ door_of 14 6 hermite_row input.now out.old }
 {
-    if input.len() != 14 {
-        return 100;
-    }
-    if out.len() != 6 {
+    if input.len() != 14 || out.len() != 6 {
         return 100;
     }
     let a = flight_at(input, 0);
@@ -503,14 +463,12 @@ pub extern "C" fn probe_hermite(input: &[f64], out: &mut [f64]) -> u32
     0
 }
 
+#[tactic(auto, using(crate::proofs::Doors::ways), unfolding(crate::specs::Doors::parabola_row))]
 #[unsafe(no_mangle)]
 pub extern "C" fn probe_parabola(input: &[f64], out: &mut [f64]) -> u32
     ensures { opened result out.new ≡ door_of 7 6 parabola_row input.now out.old }
 {
-    if input.len() != 7 {
-        return 100;
-    }
-    if out.len() != 6 {
+    if input.len() != 7 || out.len() != 6 {
         return 100;
     }
     let a = flight_at(input, 0);
@@ -518,28 +476,24 @@ pub extern "C" fn probe_parabola(input: &[f64], out: &mut [f64]) -> u32
     0
 }
 
+#[tactic(auto, using(crate::proofs::Doors::ways), unfolding(crate::specs::Doors::drop_time_row))]
 #[unsafe(no_mangle)]
 pub extern "C" fn probe_drop_time(input: &[f64], out: &mut [f64]) -> u32
     ensures { opened result out.new ≡ door_of 2 1 drop_time_row input.now out.old }
 {
-    if input.len() != 2 {
-        return 100;
-    }
-    if out.len() != 1 {
+    if input.len() != 2 || out.len() != 1 {
         return 100;
     }
     fill_one(out, flight::drop_time(input[0], input[1]));
     0
 }
 
+#[tactic(auto, using(crate::proofs::Doors::ways), unfolding(crate::specs::Doors::hops_die_out_row))]
 #[unsafe(no_mangle)]
 pub extern "C" fn probe_hops_die_out(input: &[f64], out: &mut [f64]) -> u32
     ensures { opened result out.new ≡ door_of 46 1 hops_die_out_row input.now out.old }
 {
-    if input.len() != 46 {
-        return 100;
-    }
-    if out.len() != 1 {
+    if input.len() != 46 || out.len() != 1 {
         return 100;
     }
     let arrival = fields::state_at(input, 0);
@@ -554,14 +508,12 @@ pub extern "C" fn probe_hops_die_out(input: &[f64], out: &mut [f64]) -> u32
     0
 }
 
+#[tactic(auto, using(crate::proofs::Doors::ways), unfolding(crate::specs::Doors::speed_factor_row))]
 #[unsafe(no_mangle)]
 pub extern "C" fn probe_speed_factor(input: &[f64], out: &mut [f64]) -> u32
     ensures { opened result out.new ≡ door_of 3 1 speed_factor_row input.now out.old }
 {
-    if input.len() != 3 {
-        return 100;
-    }
-    if out.len() != 1 {
+    if input.len() != 3 || out.len() != 1 {
         return 100;
     }
     let law = roll_law_of(input[0], input[1]);
@@ -569,14 +521,12 @@ pub extern "C" fn probe_speed_factor(input: &[f64], out: &mut [f64]) -> u32
     0
 }
 
+#[tactic(auto, using(crate::proofs::Doors::ways), unfolding(crate::specs::Doors::contact_angle_row))]
 #[unsafe(no_mangle)]
 pub extern "C" fn probe_contact_angle(input: &[f64], out: &mut [f64]) -> u32
     ensures { opened result out.new ≡ door_of 3 1 contact_angle_row input.now out.old }
 {
-    if input.len() != 3 {
-        return 100;
-    }
-    if out.len() != 1 {
+    if input.len() != 3 || out.len() != 1 {
         return 100;
     }
     let surface = green_with(input[0]);
@@ -584,14 +534,12 @@ pub extern "C" fn probe_contact_angle(input: &[f64], out: &mut [f64]) -> u32
     0
 }
 
+#[tactic(auto, using(crate::proofs::Doors::ways), unfolding(crate::specs::Doors::from_spin_vector_row))]
 #[unsafe(no_mangle)]
 pub extern "C" fn probe_from_spin_vector(input: &[f64], out: &mut [f64]) -> u32
     ensures { opened result out.new ≡ door_of 3 5 from_spin_vector_row input.now out.old }
 {
-    if input.len() != 3 {
-        return 100;
-    }
-    if out.len() != 5 {
+    if input.len() != 3 || out.len() != 5 {
         return 100;
     }
     let omega = fields::vec_at(input, 0);
@@ -599,14 +547,12 @@ pub extern "C" fn probe_from_spin_vector(input: &[f64], out: &mut [f64]) -> u32
     0
 }
 
+#[tactic(auto, using(crate::proofs::Doors::ways), unfolding(crate::specs::Doors::slip_row))]
 #[unsafe(no_mangle)]
 pub extern "C" fn probe_slip(input: &[f64], out: &mut [f64]) -> u32
     ensures { opened result out.new ≡ door_of 10 3 slip_row input.now out.old }
 {
-    if input.len() != 10 {
-        return 100;
-    }
-    if out.len() != 3 {
+    if input.len() != 10 || out.len() != 3 {
         return 100;
     }
     let vel = fields::vec_at(input, 0);
@@ -616,14 +562,12 @@ pub extern "C" fn probe_slip(input: &[f64], out: &mut [f64]) -> u32
     0
 }
 
+#[tactic(auto, using(crate::proofs::Doors::ways), unfolding(crate::specs::Doors::lock_rolling_row))]
 #[unsafe(no_mangle)]
 pub extern "C" fn probe_lock_rolling(input: &[f64], out: &mut [f64]) -> u32
     ensures { opened result out.new ≡ door_of 11 6 lock_rolling_row input.now out.old }
 {
-    if input.len() != 11 {
-        return 100;
-    }
-    if out.len() != 6 {
+    if input.len() != 11 || out.len() != 6 {
         return 100;
     }
     let vel = fields::vec_at(input, 0);
@@ -636,14 +580,12 @@ pub extern "C" fn probe_lock_rolling(input: &[f64], out: &mut [f64]) -> u32
     0
 }
 
+#[tactic(auto, using(crate::proofs::Doors::ways), unfolding(crate::specs::Doors::saturate_pivot_row))]
 #[unsafe(no_mangle)]
 pub extern "C" fn probe_saturate_pivot(input: &[f64], out: &mut [f64]) -> u32
     ensures { opened result out.new ≡ door_of 9 3 saturate_pivot_row input.now out.old }
 {
-    if input.len() != 9 {
-        return 100;
-    }
-    if out.len() != 3 {
+    if input.len() != 9 || out.len() != 3 {
         return 100;
     }
     let start = fields::vec_at(input, 0);
@@ -653,14 +595,12 @@ pub extern "C" fn probe_saturate_pivot(input: &[f64], out: &mut [f64]) -> u32
     0
 }
 
+#[tactic(auto, using(crate::proofs::Doors::ways), unfolding(crate::specs::Doors::tangential_gravity_row))]
 #[unsafe(no_mangle)]
 pub extern "C" fn probe_tangential_gravity(input: &[f64], out: &mut [f64]) -> u32
     ensures { opened result out.new ≡ door_of 3 3 tangential_gravity_row input.now out.old }
 {
-    if input.len() != 3 {
-        return 100;
-    }
-    if out.len() != 3 {
+    if input.len() != 3 || out.len() != 3 {
         return 100;
     }
     let n = fields::vec_at(input, 0);
@@ -668,14 +608,12 @@ pub extern "C" fn probe_tangential_gravity(input: &[f64], out: &mut [f64]) -> u3
     0
 }
 
+#[tactic(auto, using(crate::proofs::Doors::ways), unfolding(crate::specs::Doors::sample_holds_row))]
 #[unsafe(no_mangle)]
 pub extern "C" fn probe_sample_holds(input: &[f64], out: &mut [f64]) -> u32
     ensures { opened result out.new ≡ door_of 12 1 sample_holds_row input.now out.old }
 {
-    if input.len() != 12 {
-        return 100;
-    }
-    if out.len() != 1 {
+    if input.len() != 12 || out.len() != 1 {
         return 100;
     }
     let at = sample_at(input, 0);

@@ -1,9 +1,8 @@
 -- Lemmas. Two programs that run alike on every course, and the hop in which the spin is held runs as the one over the factor 1. Assumes nothing.
 use Prim.Native.Nat.{ℕ, zero, suc}
-use Rattle.std.specs.Prelude.{◌≡◌, Bool, true, false, not, List, [], ◌∷◌, ◌++◌, Float}
+use Rattle.std.specs.Prelude.{◌≡◌, Bool, true, false, not, List, [], ◌∷◌, ◌++◌, Float, Option, Some, None}
 use Rattle.std.proofs.Math.Path.{refl, ap, sym}
 use Rattle.std.proofs.Common.{◌∙◌}
-use Rattle.std.proofs.Math.Option.{Option, none, some}
 use Rattle.std.specs.Float.{binary64}
 use Rattle.std.specs.Float.Ieee.{le, neg}
 use Rattle.std.specs.Float.Ieee.Fits.{sub-fits}
@@ -36,8 +35,6 @@ use Rattle.hop.specs.declared.Way.{Way}
 use Rattle.hop.specs.declared.Way.TheVariants.{Arrived, Late}
 use Rattle.strike.specs.Strike.{struck, strike, dies_out, fly_by}
 use Rattle.strike.specs.declared.Struck.{Struck}
-use Rattle.strike.specs.declared.Flown.{Flown}
-use Rattle.strike.specs.declared.Flown.TheVariants.{Hop, Ground}
 use Rattle.ground_phase.specs.GroundPhase.{time_up}
 use Rattle.state.specs.declared.Phase.TheVariants.{Hop as InHop}
 use Rattle.train.specs.Train.{train_from_by}
@@ -156,14 +153,14 @@ module _ (c : Conditions) (w : DVec3) (d : Doubles w) where
   arrives_with : (arc : Arc) (t end : Float) → Gives (IfSome With) (hop_arrival arc t end w)
   unfolding hop_arrival placed
   arrives_with arc t end = gives_bind (IfSome With) (clearance_at arc _) _ (λ f0. gives_bind (IfSome With) (first_crossing _ _ _ _) _ (elim [
-    | none ↦ gives_pure (IfSome With) none tt
-    | some b ↦ gives_bind (IfSome With) (crossing_time arc b) _ (λ tau. gives_bind (IfSome With) (look _ _) _ (λ s. gives_pure (IfSome With) (some _) refl))
+    | None ↦ gives_pure (IfSome With) None tt
+    | Some b ↦ gives_bind (IfSome With) (crossing_time arc b) _ (λ tau. gives_bind (IfSome With) (look _ _) _ (λ s. gives_pure (IfSome With) (Some _) refl))
   ]))
 
   next_with : (f : Flight) (b : BallState) → With b → (a : Option BallState) → IfSome With a → Gives Led (hop_next f b a)
   unfolding hop_next
-  next_with f b h none _ = gives_bind Led (when _ _) _ (λ _. gives_pure Led (again (flight b _)) h)
-  next_with f b h (some s) k = given_test Led s _ (λ ok. gives_pure Led (over (Arrived s)) k)
+  next_with f b h None _ = gives_bind Led (when _ _) _ (λ _. gives_pure Led (again (flight b _)) h)
+  next_with f b h (Some s) k = given_test Led s _ (λ ok. gives_pure Led (over (Arrived s)) k)
 
   step_with : (f : Flight) → WithFlight f → Gives Led (hop_step c (held (from_spin_vector w)) f)
   unfolding hop_step step_end
@@ -190,9 +187,9 @@ abbrev SpunWay : Way → Type 0
 SpunWay (Arrived b) = Spun b
 SpunWay (Late b) = Spun b
 
-abbrev SpunFlown : Flown → Type 0
-SpunFlown (Hop way) = SpunWay way
-SpunFlown Ground = Unit
+abbrev SpunFlown : Option Way → Type 0
+SpunFlown (Some way) = SpunWay way
+SpunFlown None = Unit
 
 module _ (c : Conditions) where
   hop_alike : (start : BallState) → Spun start → Alike (hop_held c start) (hop_fading one c start)
@@ -210,11 +207,11 @@ module _ (c : Conditions) where
   fly_spun : (hops : Bool) (state : BallState) (hit : Struck) → SpunHit hit → Gives SpunFlown (fly_by c (hop_held c) hops state hit)
   unfolding fly_by
   fly_spun hops state hit d =
-      either (Gives SpunFlown) (not hops) (gives_pure SpunFlown Ground tt)
+      either (Gives SpunFlown) (not hops) (gives_pure SpunFlown None tt)
       (gives_bind SpunFlown mark _ (λ m. gives_bind SpunFlown (push_point _ _) _ (λ _. gives_then SpunWay SpunFlown (hop_held c hit.out) _ (elim [
-        | Late b ↦ λ j. gives_pure SpunFlown (Hop (Late b)) j
-        | Arrived b ↦ λ j. either (Gives SpunFlown) (dies_out c state hit b) (gives_pure SpunFlown (Hop (Arrived b)) j)
-            (gives_bind SpunFlown (truncate m) _ (λ _. gives_pure SpunFlown Ground tt))
+        | Late b ↦ λ j. gives_pure SpunFlown (Some (Late b)) j
+        | Arrived b ↦ λ j. either (Gives SpunFlown) (dies_out c state hit b) (gives_pure SpunFlown (Some (Arrived b)) j)
+            (gives_bind SpunFlown (truncate m) _ (λ _. gives_pure SpunFlown None tt))
       ]) (hop_spun hit.out d))))
 
   pub train_alike : (n : ℕ) (s : BallState) → Spun s → Alike (train_from_by c (hop_held c) n s) (train_from_by c (hop_fading one c) n s)
@@ -222,8 +219,8 @@ module _ (c : Conditions) where
   train_alike zero s d = alike_same
   train_alike (suc n) s d = alike_then SpunHit alike_same (strike_spun c s d) (λ hit h.
       alike_then SpunFlown (fly_alike _ s hit h) (fly_spun _ s hit h) (elim [
-        | Ground ↦ λ _. alike_same
-        | Hop way ↦ λ j. alike_bind alike_same (λ _. after (train_alike n) way j)
+        | None ↦ λ _. alike_same
+        | Some way ↦ λ j. alike_bind alike_same (λ _. after (train_alike n) way j)
       ]))
     where
       after : ((b : BallState) → Spun b → Alike (train_from_by c (hop_held c) n b) (train_from_by c (hop_fading one c) n b))

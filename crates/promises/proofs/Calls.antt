@@ -18,7 +18,7 @@ use Rattle.shot.specs.Tests.{step_physics_ok, ball_ok, landing_ok}
 use Rattle.ground.specs.Tests.{step_test, impact_test}
 use Rattle.ground.specs.Settle.{first_log}
 use Rattle.ground.specs.Step.{step_run, step_by, step_made, step_of, impact_run, impact_by, impact_made, impact_answer}
-use Rattle.ground.specs.declared.StepOut.{StepOut}
+use Rattle.ground.specs.Step.{StepOut}
 use Rattle.promises.specs.Samples.{height_finite}
 use Rattle.promises.specs.Calls.{StepSays, ImpactSays, HeightSays}
 

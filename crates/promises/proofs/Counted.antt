@@ -2,10 +2,9 @@
 use Prim.Native.Nat.{ℕ, zero, suc, ◌+◌, ◌-◌}
 use Rattle.std.proofs.Common.{zero-add, arith, ◌∙◌, length-append}
 use Rattle.std.proofs.Math.Nat.{add-zero}
-use Rattle.std.specs.Prelude.{◌≡◌, Bool, not, List, [], ◌∷◌, eqb, Float}
+use Rattle.std.specs.Prelude.{◌≡◌, Bool, not, List, [], ◌∷◌, eqb, Float, Option, Some, None}
 use Rattle.std.proofs.Math.Path.{refl, ap, sym}
 use Rattle.std.proofs.Math.Bool.{true, false}
-use Rattle.std.proofs.Math.Option.{Option, none, some}
 use Rattle.std.proofs.Math.ListN.{length}
 use Rattle.std.specs.Float.Ieee.{le, eq}
 use Rattle.number.specs.Ops.{dec}
@@ -35,14 +34,12 @@ use Rattle.hop.specs.Hop.{Air, air_of, flight, hop_next, hop_step, hop_from, hop
 use Rattle.hop.specs.declared.Flight.{Flight}
 use Rattle.hop.specs.declared.Way.{Way}
 use Rattle.hop.specs.declared.Way.TheVariants.{Arrived, Late}
-use Rattle.roll.specs.Roll.{roll_from, last_of, held_of, ground_step}
+use Rattle.roll.specs.Roll.{roll_from, held_of, ground_step}
 use Rattle.roll.specs.declared.Roll.{Roll}
 use Rattle.roll.specs.declared.Ending.{Ending}
 use Rattle.ground_phase.specs.GroundPhase.{last_phase, time_up, ground_from, ground}
 use Rattle.strike.specs.Strike.{strike, rebounds, dies_out, fly_by, fly, drop}
 use Rattle.strike.specs.declared.Struck.{Struck}
-use Rattle.strike.specs.declared.Flown.{Flown}
-use Rattle.strike.specs.declared.Flown.TheVariants.{Hop, Ground}
 use Rattle.train.specs.Train.{last_impact, to_ground, train_from_by, train_from, train}
 use Rattle.ground.specs.Tests.{refusal_of}
 use Rattle.ground.specs.Settle.{conditions_of, first_log, run_of}
@@ -173,7 +170,7 @@ module _ (o : Oracle) where
 
     makes_crossing : (n i : ℕ) (b : Bracket) → Makes 0 (crossing_from f len f_end n i b)
     unfolding crossing_from
-    makes_crossing zero i b = makes_pure none
+    makes_crossing zero i b = makes_pure None
     makes_crossing (suc n) i b =
         makes_then (sub_step f len f_end i b) _ 0 (makes_sub_step i b)
         (λ x. makes_if 0 _ _ (le x.f_hi (dec 0 1)) (makes_pure _) (makes_crossing n (i + 1) x))
@@ -195,14 +192,14 @@ module _ (o : Oracle) where
       makes_then (clearance_at arc (dec 0 1)) _ 0 (makes_clearance_at arc _)
       (λ f0. makes_then (crossing_from (clearance_at arc) arc.h end 8 1 _) _ 0 (makes_crossing (clearance_at arc) (makes_clearance_at arc) arc.h end 8 1 _)
       (elim [
-        | none ↦ makes_pure none
-        | some b ↦ makes_then (crossing_time arc b) _ 0 (makes_crossing_time arc b) (λ tau. makes_then (look _ _) _ 0 (makes_look _ _) (λ s. makes_pure _))
+        | None ↦ makes_pure None
+        | Some b ↦ makes_then (crossing_time arc b) _ 0 (makes_crossing_time arc b) (λ tau. makes_then (look _ _) _ 0 (makes_look _ _) (λ s. makes_pure _))
       ]))
 
   makes_hop_next : (f : Flight) (b : BallState) (a : Option BallState) → Makes 0 (hop_next f b a)
   unfolding hop_next
-  makes_hop_next f b none = makes_then (when _ _) _ 0 (makes_when _ _ (makes_point b _)) (λ _. makes_pure _)
-  makes_hop_next f b (some s) = makes_then (test s) _ 0 (makes_test s) (λ x. makes_pure _)
+  makes_hop_next f b None = makes_then (when _ _) _ 0 (makes_when _ _ (makes_point b _)) (λ _. makes_pure _)
+  makes_hop_next f b (Some s) = makes_then (test s) _ 0 (makes_test s) (λ x. makes_pure _)
 
   makes_hop_step : (c : Conditions) (air : Air) (f : Flight) → Makes 1 (hop_step c air f)
   unfolding hop_step
@@ -271,14 +268,14 @@ module _ (o : Oracle) where
     listed_ground : (state : BallState) (s : GroundSample) → Listed (ground c state s) (ground_passes o c state s)
     unfolding ground ground_from ground_passes steps_left ◌>>=◌ bind
     listed_ground state s l =
-        listed_loop (λ (g : Roll). is_late g.state.time c.t_end) (λ g. time_up g.state (last_phase (last_of g.last))) (ground_step c) on_ground
+        listed_loop (λ (g : Roll). is_late g.state.time c.t_end) (λ g. time_up g.state (last_phase g.last)) (ground_step c) on_ground
         (λ g. makes_time_up _ _) (makes_ground_step c)
         (c.step_limit - l.steps) (roll_from state s) l
 
     -- what follows a hop makes none
-    makes_kept : (state : BallState) (hit : Struck) (m : ℕ) (w : Way) → Makes {A = Flown} 0 (elim w [
-      | Late b ↦ pure (Hop (Late b))
-      | Arrived b ↦ if dies_out c state hit b then pure (Hop (Arrived b)) else (truncate m >>= λ _. pure Ground)
+    makes_kept : (state : BallState) (hit : Struck) (m : ℕ) (w : Way) → Makes {A = Option Way} 0 (elim w [
+      | Late b ↦ pure (Some (Late b))
+      | Arrived b ↦ if dies_out c state hit b then pure (Some (Arrived b)) else (truncate m >>= λ _. pure None)
     ])
     makes_kept state hit m (Late b) = makes_pure _
     makes_kept state hit m (Arrived b) =
@@ -287,7 +284,7 @@ module _ (o : Oracle) where
     listed_fly : (hops : Bool) (state : BallState) (hit : Struck) → Listed (fly c hops state hit) (fly_passes o c hops hit)
     unfolding fly_by fly_passes
     listed_fly hops state hit =
-        if_listed (not hops) (pure Ground) _ nothing _ (makes_pure Ground)
+        if_listed (not hops) (pure None) _ nothing _ (makes_pure None)
         (listed_after mark _ _ makes_mark (λ m. listed_after (push_point hit.out InHop) _ (λ _. hop_passes o c hit.out) (makes_point _ _)
         (λ _ l. then_still (hop c hit.out) _ (makes_kept state hit m) l ∙ listed_hop hit.out l)))
 
@@ -316,16 +313,16 @@ module _ (o : Oracle) where
     listed_way n h (Late b) = makes_time_up b InHop
 
     -- what follows a rebound
-    listed_flown : (n : ℕ) → ((b : BallState) → Listed (train_from c n b) (train_passes o c n b)) → (state : BallState) (hit : Struck) (x : Flown)
+    listed_flown : (n : ℕ) → ((b : BallState) → Listed (train_from c n b) (train_passes o c n b)) → (state : BallState) (hit : Struck) (x : Option Way)
         → Listed {A = Ending} (elim x [
-          | Ground ↦ to_ground c state hit
-          | Hop way ↦ push_contact state hit.«at» hit.out >>= λ _. elim way [ Arrived b ↦ train_from c n b | Late b ↦ time_up b InHop ]
+          | None ↦ to_ground c state hit
+          | Some way ↦ push_contact state hit.«at» hit.out >>= λ _. elim way [ Arrived b ↦ train_from c n b | Late b ↦ time_up b InHop ]
         ]) (elim x [
-          | Ground ↦ to_ground_passes o c state hit
-          | Hop way ↦ after o (push_contact state hit.«at» hit.out) (λ _. elim way [ Arrived b ↦ train_passes o c n b | Late b ↦ nothing ])
+          | None ↦ to_ground_passes o c state hit
+          | Some way ↦ after o (push_contact state hit.«at» hit.out) (λ _. elim way [ Arrived b ↦ train_passes o c n b | Late b ↦ nothing ])
         ])
-    listed_flown n h state hit (Hop w) = listed_after (push_contact state hit.«at» hit.out) _ _ (makes_contact _ _ _) (λ _. listed_way n h w)
-    listed_flown n h state hit Ground = listed_to_ground state hit
+    listed_flown n h state hit (Some w) = listed_after (push_contact state hit.«at» hit.out) _ _ (makes_contact _ _ _) (λ _. listed_way n h w)
+    listed_flown n h state hit None = listed_to_ground state hit
 
     listed_train : (n : ℕ) (state : BallState) → Listed (train_from c n state) (train_passes o c n state)
     unfolding train_from_by train_passes

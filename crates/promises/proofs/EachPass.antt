@@ -1,6 +1,6 @@
 -- Lemmas. Each pass of a run keeps to its brackets: every state from which a pass is made passed test 22, or is the landing, at a time that is a double.
 use Prim.Native.Nat.{ℕ, zero, suc, ◌-◌}
-use Rattle.std.specs.Prelude.{◌≡◌, refl, Bool, true, false, not, Float}
+use Rattle.std.specs.Prelude.{◌≡◌, refl, Bool, true, false, not, Float, Option, Some, None}
 use mathlib.Core.List.{List, [], ◌∷◌, ◌++◌}
 use Rattle.std.specs.Float.Ieee.{neg, le}
 use Rattle.number.specs.Ops.{◌⊗◌, dec}
@@ -28,8 +28,6 @@ use Rattle.roll.specs.declared.Roll.{Roll}
 use Rattle.roll.specs.declared.Ending.{Ending}
 use Rattle.strike.specs.Strike.{struck, strike, rebounds, dies_out, fly_by, fly, dropped, drop}
 use Rattle.strike.specs.declared.Struck.{Struck}
-use Rattle.strike.specs.declared.Flown.{Flown}
-use Rattle.strike.specs.declared.Flown.TheVariants.{Hop, Ground}
 use Rattle.promises.specs.Passes.{Made, in_air, on_ground, Each, followed, after, loop_passes, hop_passes, ground_passes, fly_passes, to_ground_passes}
 use Rattle.promises.specs.Passes.{train_passes}
 use Rattle.promises.specs.Bracketed.{Timed, Later, HopLeads, GroundLeads, Bracketed}
@@ -109,9 +107,9 @@ TimedWay (Late b) = Timed b
 abbrev TimedRoll : Roll → Type 0
 TimedRoll g = Timed g.state
 
-abbrev TimedFlown : Flown → Type 0
-TimedFlown (Hop w) = TimedWay w
-TimedFlown Ground = Unit
+abbrev TimedFlown : Option Way → Type 0
+TimedFlown (Some w) = TimedWay w
+TimedFlown None = Unit
 
 abbrev TimedHit : Struck → Type 0
 TimedHit hit = Timed hit.out
@@ -153,11 +151,11 @@ module _ (c : Conditions) (paced : Paced c) where
   fly_gives : (hops : Bool) (state : BallState) (hit : Struck) → TimedHit hit → Gives TimedFlown (fly c hops state hit)
   unfolding fly_by
   fly_gives hops state hit i =
-      either (Gives TimedFlown) (not hops) (gives_pure TimedFlown Ground tt)
+      either (Gives TimedFlown) (not hops) (gives_pure TimedFlown None tt)
       (gives_bind TimedFlown mark _ (λ m. gives_bind TimedFlown (push_point _ _) _ (λ _. gives_then TimedWay TimedFlown (hop c hit.out) _ (elim [
-        | Late b ↦ λ j. gives_pure TimedFlown (Hop (Late b)) j
-        | Arrived b ↦ λ j. either (Gives TimedFlown) (dies_out c state hit b) (gives_pure TimedFlown (Hop (Arrived b)) j)
-            (gives_bind TimedFlown (truncate m) _ (λ _. gives_pure TimedFlown Ground tt))
+        | Late b ↦ λ j. gives_pure TimedFlown (Some (Late b)) j
+        | Arrived b ↦ λ j. either (Gives TimedFlown) (dies_out c state hit b) (gives_pure TimedFlown (Some (Arrived b)) j)
+            (gives_bind TimedFlown (truncate m) _ (λ _. gives_pure TimedFlown None tt))
       ]) (hop_gives hit.out i))))
 
   strike_gives : (state : BallState) → Timed state → Gives TimedHit (strike c state)
@@ -206,9 +204,9 @@ module _ (c : Conditions) (paced : Paced c) where
         each_after o (Bracketed c) TimedHit (strike c state) _ (strike_gives state i) (λ hit j l.
         each_append o (Bracketed c) (fly_passes o c (rebounds c hit) hit l) _ (each_fly (rebounds c hit) hit j l)
         (each_after o (Bracketed c) TimedFlown (fly c (rebounds c hit) state hit) _ (fly_gives (rebounds c hit) state hit j) (elim [
-          | Ground ↦ λ _. each_to_ground state hit j
-          | Hop (Arrived b) ↦ λ k. each_after o (Bracketed c) (λ _. Unit) (push_contact state hit.«at» hit.out) _
+          | None ↦ λ _. each_to_ground state hit j
+          | Some (Arrived b) ↦ λ k. each_after o (Bracketed c) (λ _. Unit) (push_contact state hit.«at» hit.out) _
               (any (push_contact state hit.«at» hit.out)) (λ _ _. each_train n b k)
-          | Hop (Late b) ↦ λ k. each_after o (Bracketed c) (λ _. Unit) (push_contact state hit.«at» hit.out) _
+          | Some (Late b) ↦ λ k. each_after o (Bracketed c) (λ _. Unit) (push_contact state hit.«at» hit.out) _
               (any (push_contact state hit.«at» hit.out)) (λ _ _ m. tt)
         ]) l))

@@ -1,5 +1,5 @@
 -- Statements. Every run with answer 0 may be entered on a board (01, "Lists and the rest of the shop"): its final spot never meets 10. Assumes nothing.
-use Rattle.std.specs.Prelude.{ℕ, ◌≤◌, ◌<◌, ◌≡◌, refl, false, ◌&&◌, List, [], T, Float}
+use Rattle.std.specs.Prelude.{ℕ, ◌≤◌, ◌<◌, ◌≡◌, refl, false, ◌&&◌, List, [], T, Float, Option, Some, None}
 use Rattle.std.proofs.Common.{sym, subst}
 use Rattle.std.specs.Float.Ieee.Fits.{and_l, and_r}
 use Rattle.number.specs.Ops.{dec}
@@ -8,11 +8,10 @@ use Rattle.state.specs.declared.BallState.{BallState}
 use Rattle.state.specs.State.{coord_ok, vec_ok, state_ok}
 use Rattle.shot.specs.declared.Shot.{Shot}
 use Rattle.state.specs.declared.Termination.{Termination}
-use Rattle.state.specs.declared.Termination.TheVariants.{Nothing, Rest, MaxTime, MaxImpacts}
-use Rattle.ground.specs.Settle.{termination_number, settle_of}
+use Rattle.state.specs.declared.Termination.TheVariants.{Rest, MaxTime, MaxImpacts}
+use Rattle.ground.specs.Settle.{Settled, termination_number, settle_of}
 use Rattle.promises.proofs.Finite.{settle_leaves}
 use Rattle.promises.proofs.Promises.{answered, finished}
-use Rattle.ground.specs.declared.Settled.{Settled}
 use Rattle.board.specs.declared.Board.{Board}
 use Rattle.board.specs.declared.Entry.{Entry}
 use Rattle.board.specs.Rules.{holds, used}
@@ -73,14 +72,14 @@ module _ (sheet : List ℕ) (shot : Shot) (cs ps : List Float) where
   unfolding sent_of is_end termination_of termination_number
   sent_run_lem h b k n = go run.termination (finished sheet shot cs ps h)
     where
-      sent : Termination → Sent
+      sent : Option Termination → Sent
       sent t = record { bay = k; shot = n; termination = termination_number t; contacts = run.contacts; x = run.rest.pos.x; z = run.rest.pos.z }
 
-      entry : Termination → Entry
+      entry : Option Termination → Entry
       entry t = record { shot = n; bay = k; termination = t; contacts = run.contacts; x = run.rest.pos.x; z = run.rest.pos.z }
 
-      go : (t : Termination) → (t ≡ Nothing → ⊥) → sent_of b (sent t) ≡ enter_of b (entry t)
-      go Nothing i = absurd (i refl)
-      go Rest i = refl
-      go MaxTime i = refl
-      go MaxImpacts i = refl
+      go : (t : Option Termination) → (t ≡ None → ⊥) → sent_of b (sent t) ≡ enter_of b (entry t)
+      go None i = absurd (i refl)
+      go (Some Rest) i = refl
+      go (Some MaxTime) i = refl
+      go (Some MaxImpacts) i = refl

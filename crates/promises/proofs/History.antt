@@ -1,6 +1,6 @@
 -- Statements. 02, paper 8, "A history the league can trust": what is shown of every run with answer 0, over the result and both lists that `settle_of`, and so
 -- the contract of `settle`, gives. The terms are those of Table. dt and the landing's time are doubles, as every f64 is. Assumes nothing.
-use Rattle.std.specs.Prelude.{ℕ, ◌≤◌, max, ◌≡◌, List, T, Float, length}
+use Rattle.std.specs.Prelude.{ℕ, ◌≤◌, max, ◌≡◌, List, T, Float, length, Some}
 use Rattle.std.proofs.Common.{◌∙◌, sym, subst}
 use Rattle.std.specs.Float.{binary64}
 use Rattle.std.specs.Float.Ieee.{fits}
@@ -11,6 +11,7 @@ use Rattle.course.specs.Sheet.{course_of}
 use Rattle.records.specs.Records.{Records, recs}
 use Rattle.shot.specs.declared.Shot.{Shot}
 use Rattle.tally.specs.Language.{contact_width, point_width}
+use Rattle.arrival.proofs.FirstCrossing.{IfSome}
 use Rattle.ground.specs.Settle.{Result, conditions_of, run_of, settle_of}
 use Rattle.promises.proofs.Promises.{few_contacts as at_most}
 use Rattle.promises.specs.Table.{FirstAt, InOrder, AfterFirst, OnCourse, Rested}
@@ -46,11 +47,11 @@ module _ (sheet : List ℕ) (shot : Shot) (cs ps : List Float) where
     -- "between 1 and max(1, max_impacts) contacts, and exactly that maximum when impacts ended it"
     pub some_contact : 1 ≤ got.settled.contacts
     pub few_contacts : got.settled.contacts ≤ most
-    pub all_contacts : got.settled.termination ≡ MaxImpacts → got.settled.contacts ≡ most
+    pub all_contacts : got.settled.termination ≡ Some MaxImpacts → got.settled.contacts ≡ most
     -- "Every contact after the first has y equal to the course height at its x and z"
     pub heights : AfterFirst (OnCourse (course_of sheet)) contacts
     -- "A run that ended at rest": its own last step and its final state
-    pub rest : got.settled.termination ≡ Rest → Rested (course_of sheet) (conditions_of shot) steps got.settled.rest
+    pub rest : got.settled.termination ≡ Some Rest → Rested (course_of sheet) (conditions_of shot) steps got.settled.rest
 
   -- of every run with answer 0
   pub history : got.settled.answer ≡ 0 → T (fits binary64 shot.physics.dt) → T (fits binary64 shot.landing.time) → History
@@ -65,7 +66,7 @@ module _ (sheet : List ℕ) (shot : Shot) (cs ps : List Float) where
         point_times = rw (points_are sheet shot cs ps h f k) told.point_times;
         some_contact = rw count told.some;
         few_contacts = at_most sheet shot cs ps;
-        all_contacts = λ m. rw count (told.impacts (subst IsImpacts (sym m ∙ e.how) tt));
+        all_contacts = λ m. rw count (told.impacts (subst (IfSome IsImpacts) (sym m ∙ e.how) tt));
         heights = rw listed told.heights;
-        rest = λ m. rw e.rest (told.rest (subst IsRest (sym m ∙ e.how) tt));
+        rest = λ m. rw e.rest (told.rest (subst (IfSome IsRest) (sym m ∙ e.how) tt));
       }

@@ -1,8 +1,7 @@
 -- Lemmas. One pass, from any state that passes test 22 at a time that is a double, under conditions as 01 accepts them, keeps to its brackets.
-use Rattle.std.specs.Prelude.{◌≡◌, Bool, true, false, not, cond, ◌&&◌, Float}
+use Rattle.std.specs.Prelude.{◌≡◌, Bool, true, false, not, cond, ◌&&◌, Float, Option, Some, None}
 use Rattle.std.proofs.Math.Path.{refl}
 use Rattle.std.proofs.Common.{sym, subst}
-use Rattle.std.proofs.Math.Option.{Option, none, some}
 use Rattle.std.proofs.Math.Dec.{T}
 use Rattle.std.specs.Float.Ieee.{binary64, fits, round, sub, lt, le, eq, add}
 use Rattle.std.specs.Float.Ieee.Fits.{add-fits, and_l}
@@ -140,8 +139,8 @@ module _ (c : Conditions) (paced : Paced c) where
 
     next_leads : (b : BallState) → Later t b → (a : Option BallState) → IfSome (ArrivesIn t arc.h) a → Gives Leads (hop_next f b a)
     unfolding hop_next
-    next_leads b w none u = gives_bind Leads (when _ _) _ (λ _. gives_pure Leads (again (flight b _)) w)
-    next_leads b w (some s) u =
+    next_leads b w None u = gives_bind Leads (when _ _) _ (λ _. gives_pure Leads (again (flight b _)) w)
+    next_leads b w (Some s) u =
         let tau = u.tau in
         given_test Leads s _ (λ ok. gives_pure Leads (over (Arrived s))
         (later f.state timed due s (record { by = tau; forth = not_below tau (within_lo (dec 0 1) arc.h tau u.within); is = u.is }) ok))

@@ -1,9 +1,8 @@
 -- Lemmas. Each part of a settle, in the logic of Triple: what Keeps says of the words, said of what is made of them. Assumes nothing.
 use Prim.Native.Nat.{ℕ, zero, suc, ◌+◌, ◌-◌, ◌≤◌}
 use Rattle.std.proofs.Common.{arith, ◌∙◌}
-use Rattle.std.specs.Prelude.{◌≡◌, Bool, true, false, not, ◌&&◌, cond, eqb, Float}
+use Rattle.std.specs.Prelude.{◌≡◌, Bool, true, false, not, ◌&&◌, cond, eqb, Float, Option, Some, None}
 use Rattle.std.proofs.Math.Path.{refl, ap, sym}
-use Rattle.std.proofs.Math.Option.{Option, none, some}
 use Rattle.std.specs.Float.{binary64}
 use Rattle.std.specs.Float.Ieee.{le, eq, neg}
 use Rattle.std.specs.Float.Ieee.Fits.{add-fits}
@@ -21,8 +20,8 @@ use Rattle.rk4.specs.Rk4.{weighted_in, step_of}
 use Rattle.search.specs.Search.{root_from, find_root, after_step, narrowed, in_bracket}
 use Rattle.search.specs.declared.Bracket.{Bracket}
 use Rattle.search.specs.declared.Search.{Search}
-use Rattle.search.specs.declared.RootStep.{RootStep}
-use Rattle.search.specs.declared.RootStep.TheVariants.{Next, Found}
+use Rattle.std.specs.declared.ops.ControlFlow.{ControlFlow}
+use Rattle.std.specs.declared.ops.ControlFlow.TheVariants.{Continue, Break}
 use Rattle.tally.specs.Language.{M, in_m, look, push_contact, evaluate}
 use Rattle.tally.specs.declared.Conditions.{Conditions}
 use Rattle.arrival.specs.Arrival.{arc_of, clearance, clearance_at, sub_step, crossing_from, first_crossing, end_value, crossing_time, placed, hop_arrival}
@@ -42,8 +41,6 @@ use Rattle.roll.specs.declared.Ending.{Ending}
 use Rattle.ground_phase.specs.GroundPhase.{time_up, ground_from, ground}
 use Rattle.strike.specs.Strike.{strike, rebounds, dies_out, fly_by, fly, dropped, drop}
 use Rattle.strike.specs.declared.Struck.{Struck}
-use Rattle.strike.specs.declared.Flown.{Flown}
-use Rattle.strike.specs.declared.Flown.TheVariants.{Hop, Ground}
 use Rattle.train.specs.Train.{last_impact, to_ground, train_from_by, train_from, train}
 use Rattle.tally.proofs.Triple.{t_made, t_evaluation, evaluated_once, Past, OnWith, Triple, t_before, t_after, t_bind, t_then, t_fact, t_know, t_of, t_if, t_pure, t_same, t_loop}
 use Rattle.promises.specs.Terms.{Answer, SampleOf, Ok, OverDoubles, under, Placed, GivenBy, struck_at, arc_from, end_from, Grounded, at_once, after_hop_lem}
@@ -73,8 +70,8 @@ l_clearance p t = t_then t (λ s h. t_pure (λ w a. (a, rw h)))
 
 -- an arrival, if there is one, is over doubles
 abbrev pub Arrives : Option BallState → Type 0
-Arrives none = Unit
-Arrives (some s) = OverDoubles s
+Arrives None = Unit
+Arrives (Some s) = OverDoubles s
 
 -- a look on the arc, tau into its step
 abbrev LooksOn : (o : Oracle) (P : Past → Type 0) (R : ℕ → Past → Type 0) → DVec3 → Type 0
@@ -108,9 +105,9 @@ module _ {o : Oracle} {P : Past → Type 0} {R : ℕ → Past → Type 0} (arc :
     l_root zero s = t_same
     l_root (suc n) s = t_bind (l_evaluate _) (λ x. next (l_root n) (narrowed s (in_bracket s) x))
       where
-        next : ((t : Search) → Looks (root_from in_m (evaluate f) n t)) → (r : RootStep) → Looks (after_step in_m (root_from in_m (evaluate f) n) r)
-        next h (Next t) = h t
-        next h (Found x) = t_same
+        next : ((t : Search) → Looks (root_from in_m (evaluate f) n t)) → (r : ControlFlow Float Search) → Looks (after_step in_m (root_from in_m (evaluate f) n) r)
+        next h (Continue t) = h t
+        next h (Break x) = t_same
 
   l_end_value : (b : Bracket) → Looks (end_value arc b)
   unfolding end_value
@@ -124,8 +121,8 @@ module _ {o : Oracle} {P : Past → Type 0} {R : ℕ → Past → Type 0} (arc :
   pub l_arrival : (t end : Float) (spin : DVec3) → Triple o P (hop_arrival arc t end spin) (λ a w. P w × (Arrives a × IfSome (Placed o) a)) R
   unfolding hop_arrival first_crossing placed
   l_arrival t end spin = t_bind (l_clearance_at _) (λ x. t_bind (l_crossing_from _ l_clearance_at _ _ 8 1 _) (elim [
-    | none ↦ t_pure (λ w p. (p, (tt, tt)))
-    | some b ↦ t_bind (l_crossing_time b) (λ tau. t_then (look-keeps tau)
+    | None ↦ t_pure (λ w p. (p, (tt, tt)))
+    | Some b ↦ t_bind (l_crossing_time b) (λ tau. t_then (look-keeps tau)
         (λ s h. t_pure (λ w p. (p, (over_doubles _ _ h.1, ap (λ (g : GroundSample). g.height) h.0)))))
   ]))
 
@@ -239,9 +236,9 @@ module _ (e : Setting) where
         → (a : Option BallState) → Arrives a → GivenBy e.course (hop_arrival (arc_on f.state) f.state.time (end_on b) f.state.spin) a
         → Keeps e (At e (Within e n G) b) (hop_next f b a) (OnWith (Flying spin n) Flew)
     unfolding hop_next
-    f_hop_next spin n f b own ok d (some s) on l =
+    f_hop_next spin n f b own ok d (Some s) on l =
         t_then (a_test s (arrival f.state ok d l) (λ _ _. on)) (λ x _. t_pure (λ w a. at_frame (λ j k h. h.1) a))
-    f_hop_next spin n f b own ok d none on l = t_bind (a_when _ (a_point_own _)) (λ x. t_pure (λ w a. (a, rw d (own_next spin f.state own))))
+    f_hop_next spin n f b own ok d None on l = t_bind (a_when _ (a_point_own _)) (λ x. t_pure (λ w a. (a, rw d (own_next spin f.state own))))
 
     f_arrival : (n : ℕ) (f : Flight) (b : BallState) → Ok f.state → b ≡ end_of f.state → (end : Float)
         → let m = hop_arrival (arc_on f.state) f.state.time end f.state.spin in
@@ -268,7 +265,7 @@ module _ (e : Setting) where
 
     -- the run is over, with its last state and how
     abbrev pub Over : Ending → Past → Type 0
-    Over d w = Only d.state w × Answer d.how 0
+    Over d w = Only d.state w × Answer (Some d.how) 0
 
     f_time_up : (F : ℕ → ℕ → Type 0) → ((j k : ℕ) → F j k → G k) → (s : BallState) (phase : Phase) → Keeps e (At e F s) (time_up s phase) Over
     unfolding time_up
@@ -300,9 +297,9 @@ module _ (e : Setting) where
         (a_test _ (impact (rw h)) (λ _ d. same_over (impact_stays s g c.ball) d)) (λ b d. t_pure (λ w a. (a, rw (d, h)))))
 
     -- flown; or on the ground, after an impact that the ball left as out
-    abbrev FlownFrom : BallState → Flown → Past → Type 0
-    FlownFrom out (Hop way) w = Flew way w
-    FlownFrom out Ground w = Only w.log.good w × Grounded e.course c out w.log.good
+    abbrev FlownFrom : BallState → Option Way → Past → Type 0
+    FlownFrom out (Some way) w = Flew way w
+    FlownFrom out None w = Only w.log.good w × Grounded e.course c out w.log.good
 
     own : (out g : BallState) → Grounded e.course c out g → (w : Past) → Only g w → Only w.log.good w × Grounded e.course c out w.log.good
     own out g d w a = (record { sound = a.sound; frame = a.frame; good = refl; over = rw a.good a.over; on = a.on }, rw a.good d)
@@ -366,8 +363,8 @@ module _ (e : Setting) where
       t_if (not (rebounds c hit)) (λ _. f_to_ground s ok hit h 0 so (at_once refl)) (λ _. f_last_impact s ok hit h 0))))
   f_train_from (suc n) s = t_know (λ w. at_ok) (λ ok. t_know (λ w a. a.over) (λ so. t_then (f_strike (Room (suc (suc n))) s) (λ hit h.
       t_know (λ w. at_ok) (λ kb. t_bind (f_fly (Room (suc (suc n))) _ s hit) (elim [
-        | Ground ↦ t_of (λ w. w.log.good) (λ g. t_fact (λ d. f_to_ground s ok hit h (suc n) so d))
-        | Hop way ↦ t_bind (f_contact (Room (suc (suc n))) (room (suc n)) s ok hit h _ kb) (λ _. after n way (f_train_from n))
+        | None ↦ t_of (λ w. w.log.good) (λ g. t_fact (λ d. f_to_ground s ok hit h (suc n) so d))
+        | Some way ↦ t_bind (f_contact (Room (suc (suc n))) (room (suc n)) s ok hit h _ kb) (λ _. after n way (f_train_from n))
       ])))))
     where
       after : (n : ℕ) (way : Way) → ((s : BallState) → Keeps e (Only (Room (suc n)) s) (train_from c n s) Ended)

@@ -1,5 +1,5 @@
 -- Statements. What 01 promises of every settle, on one page: each is one statement on what a call gives, proved from the lemmas of Finite.
-use Rattle.std.specs.Prelude.{ℕ, ◌*◌, ◌/◌, ◌≤◌, ◌<◌, max, ◌≡◌, ◌⊎◌, Bool, ◌&&◌, List, T, leb, Float, length}
+use Rattle.std.specs.Prelude.{ℕ, ◌*◌, ◌/◌, ◌≤◌, ◌<◌, max, ◌≡◌, ◌⊎◌, Bool, ◌&&◌, List, T, leb, Float, length, Option, Some, None}
 use Rattle.std.proofs.Common.{zero-le, arith, ◌∙◌, inl, inr, leb→le}
 use Rattle.std.proofs.Math.Nat.{max-le}
 use Rattle.std.proofs.Math.Path.{refl}
@@ -21,7 +21,7 @@ use Rattle.course.specs.Sheet.{course_of}
 use Rattle.shot.specs.declared.Shot.{Shot}
 use Rattle.shot.specs.declared.GroundPhysics.{GroundPhysics}
 use Rattle.state.specs.declared.Termination.{Termination}
-use Rattle.state.specs.declared.Termination.TheVariants.{Nothing, Rest, MaxTime, MaxImpacts}
+use Rattle.state.specs.declared.Termination.TheVariants.{Rest, MaxTime, MaxImpacts}
 use Rattle.shot.specs.Tests.{step_physics_ok, physics_ok, input_test}
 use Rattle.ground.specs.Tests.{refusal_of}
 use Rattle.roll.specs.Roll.{step_on, put_down, ground_step}
@@ -72,11 +72,11 @@ module _ (sheet : List ℕ) (shot : Shot) (cs ps : List Float) where
   pub answers : (got.settled.answer ≤ 8) ⊎ ((20 ≤ got.settled.answer) × (got.settled.answer ≤ 23))
   answers = go (eqb number 0) refl
     where
-      range : (t : Termination) (n : ℕ) → Answer t n → (n ≤ 8) ⊎ ((20 ≤ n) × (n ≤ 23))
-      range Nothing n a = inr a
-      range Rest n a = inl (omega (arith, a))
-      range MaxTime n a = inl (omega (arith, a))
-      range MaxImpacts n a = inl (omega (arith, a))
+      range : (t : Option Termination) (n : ℕ) → Answer t n → (n ≤ 8) ⊎ ((20 ≤ n) × (n ≤ 23))
+      range None n a = inr a
+      range (Some Rest) n a = inl (omega (arith, a))
+      range (Some MaxTime) n a = inl (omega (arith, a))
+      range (Some MaxImpacts) n a = inl (omega (arith, a))
 
       go : (b : Bool) → eqb number 0 ≡ b → (got.settled.answer ≤ 8) ⊎ ((20 ≤ got.settled.answer) × (got.settled.answer ≤ 23))
       go true e = range got.settled.termination got.settled.answer (accepted_answer (eqb-true number 0 e))
@@ -148,19 +148,19 @@ module _ (sheet : List ℕ) (shot : Shot) (cs ps : List Float) where
       go false e = rw e at h
 
   -- 01: "termination (`rest`, `time`, `impacts`, or `-` on a refusal)": of every call, one of the three exactly with answer 0
-  pub finished : got.settled.answer ≡ 0 → got.settled.termination ≡ Nothing → ⊥
-  finished h e = let k : Answer Nothing 0 = rw (e, h) at (accepted_answer (answered h)) in let i = k.0 in omega (arith, i)
+  pub finished : got.settled.answer ≡ 0 → got.settled.termination ≡ None → ⊥
+  finished h e = let k : Answer None 0 = rw (e, h) at (accepted_answer (answered h)) in let i = k.0 in omega (arith, i)
 
-  pub unfinished : (got.settled.answer ≡ 0 → ⊥) → got.settled.termination ≡ Nothing
+  pub unfinished : (got.settled.answer ≡ 0 → ⊥) → got.settled.termination ≡ None
   unfinished h = go (eqb number 0) refl
     where
-      none : (t : Termination) (n : ℕ) → (n ≡ 0 → ⊥) → Answer t n → t ≡ Nothing
-      none Nothing n h a = refl
-      none Rest n h a = absurd (h a)
-      none MaxTime n h a = absurd (h a)
-      none MaxImpacts n h a = absurd (h a)
+      none : (t : Option Termination) (n : ℕ) → (n ≡ 0 → ⊥) → Answer t n → t ≡ None
+      none None n h a = refl
+      none (Some Rest) n h a = absurd (h a)
+      none (Some MaxTime) n h a = absurd (h a)
+      none (Some MaxImpacts) n h a = absurd (h a)
 
-      go : (b : Bool) → eqb number 0 ≡ b → got.settled.termination ≡ Nothing
+      go : (b : Bool) → eqb number 0 ≡ b → got.settled.termination ≡ None
       go true e = none _ _ h (accepted_answer (eqb-true number 0 e))
       go false e = (refused_answer sheet shot cs ps (eqb-false number 0 e)).2
 

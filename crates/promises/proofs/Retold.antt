@@ -1,5 +1,5 @@
 -- Lemmas. From the train of impacts to a call: the records that the lists show are the run's, and a run with answer 0 ended as told (Told). Assumes nothing.
-use Rattle.std.specs.Prelude.{ℕ, suc, ◌-◌, ◌≤◌, max, ◌≡◌, List, T, Float, length}
+use Rattle.std.specs.Prelude.{ℕ, suc, ◌-◌, ◌≤◌, max, ◌≡◌, List, T, Float, length, Some}
 use Rattle.std.proofs.Math.Nat.{le-max_left, le-max_right, max-le}
 use Rattle.std.proofs.Common.{arith, ap, ◌∙◌}
 use Rattle.std.proofs.Math.Path.{refl}
@@ -102,7 +102,7 @@ module _ (sheet : List ℕ) (shot : Shot) (cs ps : List Float) where
     -- the call's termination and final state are those of an ending that is told
     pub record Ended : Type 0 where
       pub ending : Ending
-      pub how : got.settled.termination ≡ ending.how
+      pub how : got.settled.termination ≡ Some ending.how
       pub rest : got.settled.rest ≡ ending.state
       pub tells : Told o (conditions_of shot) most shot.landing.time ending end
 

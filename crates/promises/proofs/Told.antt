@@ -2,7 +2,7 @@
 -- and the points are in order; a discarded hop's points are cut off. Assumes nothing.
 use Prim.Native.Nat.{ℕ, zero, suc, ◌+◌, ◌-◌, ◌≤◌}
 use Rattle.std.proofs.Common.{arith, ◌∙◌, length-append}
-use Rattle.std.specs.Prelude.{◌≡◌, refl, Bool, not, T, Float, length}
+use Rattle.std.specs.Prelude.{◌≡◌, refl, Bool, not, T, Float, length, Option, Some, None}
 use Rattle.std.proofs.Math.Path.{ap}
 use mathlib.Core.List.{List, [], ◌∷◌, ◌++◌}
 use Rattle.std.specs.Float.Ieee.{le}
@@ -22,8 +22,6 @@ use Rattle.roll.specs.declared.Ending.{Ending}
 use Rattle.ground_phase.specs.GroundPhase.{time_up}
 use Rattle.strike.specs.Strike.{struck, strike, rebounds, dies_out, fly_by, fly, dropped, drop}
 use Rattle.strike.specs.declared.Struck.{Struck}
-use Rattle.strike.specs.declared.Flown.{Flown}
-use Rattle.strike.specs.declared.Flown.TheVariants.{Hop, Ground}
 use Rattle.train.specs.Train.{last_impact, to_ground, train_from_by, train_from, train}
 use Rattle.promises.specs.Terms.{Ok, under, Placed}
 use Rattle.promises.proofs.Finite.{state_finite}
@@ -153,9 +151,9 @@ module _ (o : Oracle) (c : Conditions) (paced : Paced c) (most : ℕ) (start : F
 
   module _ (K : Records → Type 0) (s : BallState) (hit : Struck) (h : HitOf s hit) where
     -- flown, or on the ground with the points as they were
-    abbrev FlownTo : Flown → Past → Type 0
-    FlownTo (Hop way) w = To K (state_of way).time w × (Later hit.out.time (state_of way) × Landed o way)
-    FlownTo Ground w = To K hit.out.time w
+    abbrev FlownTo : Option Way → Past → Type 0
+    FlownTo (Some way) w = To K (state_of way).time w × (Later hit.out.time (state_of way) × Landed o way)
+    FlownTo None w = To K hit.out.time w
 
     t_fly : (hops : Bool) → Triple o (To K hit.out.time) (fly c hops s hit) FlownTo Any
     unfolding fly_by
@@ -237,7 +235,7 @@ module _ (o : Oracle) (c : Conditions) (paced : Paced c) (most : ℕ) (start : F
 
   -- after a hop that was kept: its contact, and then the train or the end
   module _ (n : ℕ) (s : BallState) (i : Timed s) (hit : Struck) (h : HitOf s hit) where
-    t_kept : (way : Way) → Triple o (FlownTo (Before (suc (suc n)) s) s hit h (Hop way)) (push_contact s hit.«at» hit.out)
+    t_kept : (way : Way) → Triple o (FlownTo (Before (suc (suc n)) s) s hit h (Some way)) (push_contact s hit.«at» hit.out)
         (λ _ w. To (After (suc n) s.time) (state_of way).time w × (Later hit.out.time (state_of way) × Landed o way)) Any
     t_kept way =
         t_contact s hit.«at» hit.out (λ w a _. ((touched (suc n) s hit.«at» hit.out (contacts_of w) i a.0.0, a.0.1), a.1)) (λ w a _. tt)
@@ -253,8 +251,8 @@ module _ (o : Oracle) (c : Conditions) (paced : Paced c) (most : ℕ) (start : F
   t_train_from zero s i = t_then (t_strike (Before 1 s) s i) (λ hit h.
       t_if (not (rebounds c hit)) (λ _. t_to_ground s i hit h 0) (λ _. t_last_impact s i hit h))
   t_train_from (suc n) s i = t_then (t_strike (Before (suc (suc n)) s) s i) (λ hit h. t_bind (t_fly (Before (suc (suc n)) s) s hit h _) (elim [
-    | Ground ↦ t_to_ground s i hit h (suc n)
-    | Hop way ↦ t_then (t_kept n s i hit h way) (λ _. t_on n s i hit h (t_train_from n) way)
+    | None ↦ t_to_ground s i hit h (suc n)
+    | Some way ↦ t_then (t_kept n s i hit h way) (λ _. t_on n s i hit h (t_train_from n) way)
   ]))
 
   -- from empty lists, with all contacts to come

@@ -1,11 +1,10 @@
 -- Lemmas. A hop and the ground phase, in the logic of Triple: what every push of a point at the time reached keeps, a hop and the ground keep; the time is not
 -- turned back; an arrival lies on the course; and where the ground ends at rest, its own last step came to rest. Assumes nothing.
-use Rattle.std.specs.Prelude.{ℕ, suc, ◌≡◌, Bool, false, not, ◌&&◌, T, Float}
+use Rattle.std.specs.Prelude.{ℕ, suc, ◌≡◌, Bool, false, not, ◌&&◌, T, Float, Option, Some, None}
 use Rattle.std.proofs.Math.Path.{refl, ap, sym}
 use Rattle.std.proofs.Common.{◌∙◌, subst}
 use Rattle.std.proofs.Math.Bool.{true}
 use mathlib.Core.List.{List, [], ◌∷◌, ◌++◌}
-use Rattle.std.proofs.Math.Option.{Option, none, some}
 use Rattle.std.specs.Float.Ieee.{le}
 use Rattle.std.specs.Float.Ieee.Fits.{and_l, and_r}
 use Rattle.std.specs.Float.Ieee.Bits.{is_true}
@@ -15,7 +14,7 @@ use Rattle.state.specs.declared.BallState.{BallState}
 use Rattle.state.specs.declared.Phase.{Phase}
 use Rattle.state.specs.declared.Phase.TheVariants.{Hop as InHop, Roll as InRoll}
 use Rattle.state.specs.declared.Termination.{Termination}
-use Rattle.state.specs.declared.Termination.TheVariants.{Nothing, Rest, MaxTime, MaxImpacts}
+use Rattle.state.specs.declared.Termination.TheVariants.{Rest, MaxTime, MaxImpacts}
 use Rattle.surface.specs.declared.GroundSample.{GroundSample}
 use Rattle.aero.specs.Aero.{radius_of}
 use Rattle.look.specs.Rect.{spot_ok}
@@ -96,13 +95,11 @@ module _ {o : Oracle} where
 -- ---- how a run ended
 
 abbrev pub IsRest : Termination → Type 0
-IsRest Nothing = ⊥
 IsRest Rest = Unit
 IsRest MaxTime = ⊥
 IsRest MaxImpacts = ⊥
 
 abbrev pub IsImpacts : Termination → Type 0
-IsImpacts Nothing = ⊥
 IsImpacts Rest = ⊥
 IsImpacts MaxTime = ⊥
 IsImpacts MaxImpacts = Unit
@@ -188,8 +185,8 @@ module _ (o : Oracle) (c : Conditions) (paced : Paced c) where
 
     h_next : (t : Float) (f : Flight) (b : BallState) (a : Option BallState) → IfSome (Placed o) a → Triple o (At t) (hop_next f b a) (Hopped t) Any
     unfolding hop_next
-    h_next t f b (some s) p = t_then (w_test (to t) s) (λ x h. t_pure (λ w a. (on_later t x w a, rw h.0 p)))
-    h_next t f b none p = t_bind {Q = λ _. Onto t b} (t_when _ push (on_later t b)) (λ _. t_pure (λ w h. h))
+    h_next t f b (Some s) p = t_then (w_test (to t) s) (λ x h. t_pure (λ w a. (on_later t x w a, rw h.0 p)))
+    h_next t f b None p = t_bind {Q = λ _. Onto t b} (t_when _ push (on_later t b)) (λ _. t_pure (λ w h. h))
       where
         push : Triple o (At t) (push_point b InHop) (λ _. Onto t b) Any
         push = t_point b InHop (λ w h _ _ l. carries.more b InHop _ _ _ l.timed (on_later t b w h l)) (λ w h _ _. tt) (λ w h _. tt)

@@ -1,7 +1,6 @@
 -- Lemmas. A run counts at most 200 evaluations a step: a pass makes one search, or none.
-use Rattle.std.specs.Prelude.{ℕ, ◌+◌, ◌*◌, ◌≤◌, ◌≡◌, refl, not, Float}
+use Rattle.std.specs.Prelude.{ℕ, ◌+◌, ◌*◌, ◌≤◌, ◌≡◌, refl, not, Float, Option, Some, None}
 use Rattle.std.proofs.Common.{arith}
-use Rattle.std.proofs.Math.Option.{Option, none, some}
 use Rattle.vector.specs.declared.DVec3.{DVec3}
 use Rattle.state.specs.declared.BallState.{BallState}
 use Rattle.look.specs.Tree.{Oracle}
@@ -57,8 +56,8 @@ module _ (o : Oracle) where
 
   next : (f : Flight) (b : BallState) (a : Option BallState) → Holds o (Spare 0) (hop_next f b a)
   unfolding hop_next
-  next f b (some s) = t_bind (w_test (words 0) s) (λ s. t_same)
-  next f b none = t_bind (t_when _ (w_point (words 0) b _) (λ w h. h)) (λ _. t_same)
+  next f b (Some s) = t_bind (w_test (words 0) s) (λ s. t_same)
+  next f b None = t_bind (t_when _ (w_point (words 0) b _) (λ w h. h)) (λ _. t_same)
 
   hop_pass : (c : Conditions) (air : Air) (f : Flight) → Holds o (Spare 0) (hop_step c air f)
   unfolding hop_step clearance

@@ -1,6 +1,6 @@
 -- Lemmas. What each word and each pass keeps, a whole run keeps, wherever it stops.
 use Prim.Native.Nat.{ℕ, zero, suc}
-use Rattle.std.specs.Prelude.{Bool, not, Float}
+use Rattle.std.specs.Prelude.{Bool, not, Float, Some, None}
 use Rattle.state.specs.declared.BallState.{BallState}
 use Rattle.state.specs.declared.Phase.{Phase}
 use Rattle.state.specs.declared.Phase.TheVariants.{Hop as InHop}
@@ -20,7 +20,6 @@ use Rattle.roll.specs.declared.Roll.{Roll}
 use Rattle.ground_phase.specs.GroundPhase.{time_up, ground_from, ground}
 use Rattle.strike.specs.Strike.{strike, rebounds, dies_out, fly_by, fly, drop}
 use Rattle.strike.specs.declared.Struck.{Struck}
-use Rattle.strike.specs.declared.Flown.TheVariants.{Hop, Ground}
 use Rattle.train.specs.Train.{last_impact, to_ground, train_from_by, train_from, train}
 
 module _ (o : Oracle) (I : Past → Type 0) where
@@ -97,8 +96,8 @@ module _ {o : Oracle} {I : Past → Type 0} (k : Words o I) where
     unfolding train_from_by
     w_train_from zero state = t_bind (w_strike state) (λ hit. t_if (not (rebounds c hit)) (λ _. w_to_ground state hit) (λ _. w_last_impact state hit))
     w_train_from (suc n) state = t_bind (w_strike state) (λ hit. t_bind (w_fly _ state hit) (elim [
-      | Ground ↦ w_to_ground state hit
-      | Hop way ↦ t_bind (w_contact _ _ _) (λ _. w_way n way (w_train_from n))
+      | None ↦ w_to_ground state hit
+      | Some way ↦ t_bind (w_contact _ _ _) (λ _. w_way n way (w_train_from n))
     ]))
 
     pub train_holds : (landing : BallState) → Holds o I (train c landing)

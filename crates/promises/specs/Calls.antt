@@ -7,9 +7,8 @@ use Rattle.state.specs.declared.BallState.{BallState}
 use Rattle.state.specs.State.{state_ok}
 use Rattle.aero.specs.declared.BallModel.{BallModel}
 use Rattle.course.specs.Sheet.{course_of}
-use Rattle.course.specs.declared.HeightOut.{HeightOut}
-use Rattle.ground.specs.declared.StepOut.{StepOut}
-use Rattle.ground.specs.declared.ImpactOut.{ImpactOut}
+use Rattle.course.specs.Sheet.{HeightOut}
+use Rattle.ground.specs.Step.{StepOut, ImpactOut}
 
 -- n is one of the list
 abbrev pub among : List ℕ → ℕ → Bool

@@ -1,6 +1,6 @@
 -- Definitions. The passes that a run makes, in order, each by the state from which it is made: hop steps and ground steps. 01: "one step is one pass
 -- that makes a hop step or a contact step". Each list follows the definition of its name (Train, Strike, Hop, GroundPhase) part by part.
-use Rattle.std.specs.Prelude.{ℕ, zero, suc, ◌-◌, Bool, not, List, [], ◌∷◌, ◌++◌}
+use Rattle.std.specs.Prelude.{ℕ, zero, suc, ◌-◌, Bool, not, List, [], ◌∷◌, ◌++◌, Some, None}
 use Rattle.number.specs.Ops.{◌⊕◌}
 use Rattle.state.specs.declared.BallState.{BallState}
 use Rattle.state.specs.declared.Phase.TheVariants.{Hop as InHop}
@@ -19,7 +19,6 @@ use Rattle.roll.specs.Roll.{roll_from, ground_step}
 use Rattle.roll.specs.declared.Roll.{Roll}
 use Rattle.strike.specs.Strike.{strike, rebounds, fly, drop}
 use Rattle.strike.specs.declared.Struck.{Struck}
-use Rattle.strike.specs.declared.Flown.TheVariants.{Hop, Ground}
 use Rattle.ground.specs.Settle.{conditions_of, first_log}
 
 -- a pass that was made: of a hop, or of the ground
@@ -71,8 +70,8 @@ module _ (o : Oracle) where
     train_passes zero state = after (strike c state) (λ hit. if not (rebounds c hit) then to_ground_passes state hit else none)
     train_passes (suc n) state =
         after (strike c state) (λ hit l. fly_passes (rebounds c hit) hit l ++ after (fly c (rebounds c hit) state hit) (λ flown. elim flown [
-          | Ground ↦ to_ground_passes state hit
-          | Hop way ↦ after (push_contact state hit.«at» hit.out) (λ _. elim way [ Arrived b ↦ train_passes n b | Late b ↦ none ])
+          | None ↦ to_ground_passes state hit
+          | Some way ↦ after (push_contact state hit.«at» hit.out) (λ _. elim way [ Arrived b ↦ train_passes n b | Late b ↦ none ])
         ]) l)
 
 -- P of each of them

@@ -1,11 +1,10 @@
 -- Statements. What 01 promises of a refused call. What it promises of every settle stands in proofs/Promises.
-use Rattle.std.specs.Prelude.{ℕ, ◌≤◌, ◌≡◌, List, Float, length}
+use Rattle.std.specs.Prelude.{ℕ, ◌≤◌, ◌≡◌, List, Float, length, None}
 use Rattle.std.proofs.Common.{arith}
 use Rattle.std.proofs.Math.Path.{refl}
 use borrow.Author.Tests.{ne_eqb}
 use Rattle.look.specs.Rect.{no_rect}
 use Rattle.shot.specs.declared.Shot.{Shot}
-use Rattle.state.specs.declared.Termination.TheVariants.{Nothing}
 use Rattle.ground.specs.Tests.{refusal_of}
 use Rattle.ground.specs.Passed.{refused_by}
 use Rattle.ground.specs.Settle.{Result, no_state, settle_of}
@@ -19,7 +18,7 @@ module _ (sheet : List ℕ) (shot : Shot) (cs ps : List Float) where
   number = refusal_of sheet shot (length cs) (length ps)
 
   -- 01, "Numbers for what was handed in": a refused call answers 1 to 8, and has no termination
-  pub refused_answer : (number ≡ 0 → ⊥) → (1 ≤ got.settled.answer) × (got.settled.answer ≤ 8) × (got.settled.termination ≡ Nothing)
+  pub refused_answer : (number ≡ 0 → ⊥) → (1 ≤ got.settled.answer) × (got.settled.answer ≤ 8) × (got.settled.termination ≡ None)
   unfolding settle_of
   refused_answer h = let b = refused_by sheet shot (length cs) (length ps) in rw (ne_eqb number 0 h) (omega (arith, h), b, refl)
 

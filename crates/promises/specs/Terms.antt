@@ -1,7 +1,6 @@
 -- Definitions. The terms of the promises: the numbers that come with a termination, a point of a tested state and its clearance, a contact of two such
 -- states and a sample of the course, the states that a settle tests, the looks whose spot may fail, the test that failed.
-use Rattle.std.specs.Prelude.{ℕ, ◌≤◌, ◌≡◌, true, false, List, [], ◌∷◌, T, Float, length, get_or}
-use Rattle.std.proofs.Math.Option.{some}
+use Rattle.std.specs.Prelude.{ℕ, ◌≤◌, ◌≡◌, true, false, List, [], ◌∷◌, T, Float, length, get_or, Option, Some, None}
 use Rattle.std.specs.Float.{nan}
 use Rattle.number.specs.Ops.{◌⊖◌}
 use Rattle.number.specs.Number.{finite_of}
@@ -9,7 +8,7 @@ use Rattle.vector.specs.declared.DVec3.{DVec3}
 use Rattle.state.specs.declared.BallState.{BallState}
 use Rattle.state.specs.declared.Phase.{Phase}
 use Rattle.state.specs.declared.Termination.{Termination}
-use Rattle.state.specs.declared.Termination.TheVariants.{Nothing, Rest, MaxTime, MaxImpacts}
+use Rattle.state.specs.declared.Termination.TheVariants.{Rest, MaxTime, MaxImpacts}
 use Rattle.state.specs.State.{state_ok}
 use Rattle.surface.specs.declared.GroundSample.{GroundSample}
 use Rattle.aero.specs.Aero.{from_spin_vector}
@@ -29,11 +28,11 @@ use Rattle.strike.specs.Strike.{struck, dropped}
 use Rattle.strike.specs.declared.Struck.{Struck}
 
 -- the numbers that come with a termination: 0 where the run finished; 20 to 23, with none, where it stopped
-abbrev pub Answer : Termination → ℕ → Type 0
-Answer Nothing n = (20 ≤ n) × (n ≤ 23)
-Answer Rest n = n ≡ 0
-Answer MaxTime n = n ≡ 0
-Answer MaxImpacts n = n ≡ 0
+abbrev pub Answer : Option Termination → ℕ → Type 0
+Answer None n = (20 ≤ n) × (n ≤ 23)
+Answer (Some Rest) n = n ≡ 0
+Answer (Some MaxTime) n = n ≡ 0
+Answer (Some MaxImpacts) n = n ≡ 0
 
 -- the number at place i of a record, from 0
 abbrev pub nth : List Float → ℕ → Float
@@ -126,7 +125,7 @@ module _ (o : Oracle) where
       hop_step_lem : s ≡ end_from g → Follows g s
       -- the arrival in the hop step from f, which ended at g
       arrival : (f : BallState) → Ok f → g ≡ end_from f
-          → GivenBy (hop_arrival (arc_from f) f.time (g.pos.y ⊖ (under g).height) f.spin) (some s) → Follows g s
+          → GivenBy (hop_arrival (arc_from f) f.time (g.pos.y ⊖ (under g).height) f.spin) (Some s) → Follows g s
       -- the drop after the impact of f
       drop : (f : BallState) → Ok f → Grounded (struck_at f).out g → s ≡ dropped c (struck_at f) → Follows g s
       -- the ground step from g, on the ground under it

@@ -1,9 +1,7 @@
 -- Definitions. A list of records, and the lent list of doubles that holds it: 01, "Lists": the pushed records in order, then +0.
-use Rattle.std.specs.Prelude.{ℕ, zero, suc, ◌+◌, ◌-◌, ◌*◌, ◌/◌, ◌≤◌, ◌≡◌, Bool, true, false, List, [], ◌∷◌, ◌++◌, ltb, length, take, drop, replicate, Float}
+use Rattle.std.specs.Prelude.{ℕ, zero, suc, ◌+◌, ◌-◌, ◌*◌, ◌/◌, ◌≤◌, ◌≡◌, Bool, true, false, List, [], ◌∷◌, ◌++◌, ltb, length, take, drop, replicate, Float, Option, Some, None}
 use Rattle.std.specs.Float.Ieee.{of_bits}
 use Rattle.std.specs.Float.{binary64}
-use Rattle.records.specs.declared.Pushed.{Pushed}
-use Rattle.records.specs.declared.Pushed.TheVariants.{Full, Done}
 
 abbrev pub null : Float
 null = of_bits binary64 0
@@ -39,9 +37,10 @@ unfoldable pub recs : ℕ → ℕ → List Float → Records
 recs w zero l = []
 recs w (suc n) l = take w l ∷ recs w n (drop w l)
 
-abbrev pub as_put : ℕ → Pushed → List Float → Put
-as_put w Full l = full
-as_put w (Done n) l = put (recs w n l)
+-- by the count that a push gives, or none
+abbrev pub as_put : ℕ → Option ℕ → List Float → Put
+as_put w None l = full
+as_put w (Some n) l = put (recs w n l)
 
 abbrev pub zeroed : List Float → ℕ → List Float
 zeroed l k = take k l ++ replicate (length l - k) null
@@ -51,10 +50,10 @@ pub record Clean (w n : ℕ) (l : List Float) : Type 0 where
   pub fits : n * w ≤ length l
   pub rest : drop (n * w) l ≡ replicate (length l - n * w) null
 
-abbrev pub Kept : ℕ → ℕ → List Float → Pushed → List Float → Type 0
-Kept w n l Full m = m ≡ l
-Kept w n l (Done k) m = (k ≡ n + 1) × (k * w ≤ length l) × (Clean w n l → Clean w k m)
+abbrev pub Kept : ℕ → ℕ → List Float → Option ℕ → List Float → Type 0
+Kept w n l None m = m ≡ l
+Kept w n l (Some k) m = (k ≡ n + 1) × (k * w ≤ length l) × (Clean w n l → Clean w k m)
 
-pub record Pushes (w n : ℕ) (l r : List Float) (p : Pushed) (m : List Float) : Type 0 where
+pub record Pushes (w n : ℕ) (l r : List Float) (p : Option ℕ) (m : List Float) : Type 0 where
   pub same : as_put w p m ≡ pushed (length l / w) (recs w n l) r
   pub kept : Kept w n l p m

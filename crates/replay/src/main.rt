@@ -13,6 +13,7 @@ fn read_full(file: &mut File, buf: &mut [u8]) -> io::Result<usize>
     ensures { IfOk result (λ n. n ≤ length buf.new) }
 {
     let mut done = 0;
+    // The loop counts the bytes that came: std's `read_exact` says little of the buffer after an Err.
     while done < buf.len() {
         let n = file.read(&mut buf[done..])?;
         if n == 0 {
@@ -71,25 +72,19 @@ fn one_more(rt: &HostRuntime, number: u64, differ: u64) -> io::Result<u64>
 }
 
 fn replay_all(rt: &HostRuntime, file: &mut File, count: u64) -> io::Result<()> {
-    let mut number: u64 = 0;
-    let mut differ: u64 = 0;
-    while number < count {
+    let mut differ = 0;
+    for number in 0..count {
         match next_entry(file)? {
             Replayed::Same => {}
-            Replayed::Differs => {
-                differ = one_more(rt, number, differ)?;
-            }
-            Replayed::Damaged => {
-                return print_damaged(rt, number);
-            }
+            Replayed::Differs => differ = one_more(rt, number, differ)?,
+            Replayed::Damaged => return print_damaged(rt, number),
         }
-        number += 1;
     }
     let mut more = [0u8; 1];
     if read_full(file, &mut more)? != 0 {
-        return print_damaged(rt, number);
+        return print_damaged(rt, count);
     }
-    print_counts(rt, number, differ)
+    print_counts(rt, count, differ)
 }
 
 fn main(rt: HostRuntime) -> io::Result<()> {

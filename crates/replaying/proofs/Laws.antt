@@ -1,24 +1,12 @@
 -- Words, doubles and sums one after another. Assumes nothing.
-use Rattle.std.proofs.Common.{◌≡◌, ℕ, zero, suc, ◌+◌, ◌*◌, ◌%◌, ◌^◌, ◌<◌, ◌≤◌, Bool, true, false, not, ◌&&◌, eqb, List, [], ◌∷◌, ◌++◌, map, length, get_or, take, drop, replicate, sym, refl, ap, ◌∙◌, le_of_suc-le-suc, not-suc-le-zero, add-zero, add_assoc, add-one, arith, drop-cons, eq-eqb}
-use mathlib.Core.Bool.{beq, and_assoc}
-use lib.Ieee.{Float, nan, inf, fin, eq, is_nan, up, down}
+use Rattle.std.proofs.Common.{◌≡◌, ℕ, zero, suc, ◌+◌, ◌%◌, ◌^◌, ◌<◌, ◌≤◌, Bool, true, false, not, ◌&&◌, eqb, List, [], ◌∷◌, ◌++◌, map, length, get_or, take, drop, replicate, sym, refl, ap, ◌∙◌, le_of_suc-le-suc, not-suc-le-zero, add-zero, add_assoc, add-one, arith, drop-cons}
+use mathlib.Core.Bool.{and_assoc}
+use lib.Ieee.{Float, nan, is_nan}
 use Rattle.ground.specs.Settle.{result_of}
-use Rattle.ground.specs.declared.Settled.{Settled}
+use Rattle.ground.specs.Settle.{Settled}
 use Rattle.input.specs.Input.{whole_at}
 use Rattle.replaying.specs.declared.Sums.{Sums}
 use Rattle.replaying.specs.Replaying.{bits_of, sums_of, count_words, doubles_of, sum_words, words_of, holds, no_nan, same_of}
-
--- ---- a NaN is what does not equal itself
-
-beq_self : (s : Bool) → beq s s ≡ true
-beq_self true = refl
-beq_self false = refl
-
-pub eq_self : (x : Float) → eq x x ≡ not (is_nan x)
-unfolding eq is_nan
-eq_self nan = refl
-eq_self (inf s) = beq_self s
-eq_self (fin s m e) = rw (eq-eqb (m * up e * down e) _ refl, beq_self s)
 
 -- ---- tests in another order
 
@@ -61,6 +49,18 @@ agrees_next e i vs k h =
     rw (drop-cons vs k nan h, add_assoc i k 1, add-one k)
     (exchange (not (is_nan (get_or vs k nan))) (no_nan (drop (suc k) vs)) (eqb (bits_of (get_or vs k nan)) (whole_at e (i + k)))
     (holds e (i + suc k) (map bits_of (drop (suc k) vs))))
+
+pub agrees_append : (e : List ℕ) (i : ℕ) (xs ys : List Float) → Agrees e i (xs ++ ys) ≡ Agrees e i xs && Agrees e (i + length xs) ys
+unfolding holds no_nan
+agrees_append e i [] ys = rw add-zero
+agrees_append e i (x ∷ xs) ys =
+    let n : i + 1 + length xs ≡ i + suc (length xs) = omega arith in
+    let a = not (is_nan x) in
+    let b = eqb (bits_of x) (whole_at e i) in
+    exchange a (no_nan (xs ++ ys)) b (holds e (i + 1) (map bits_of (xs ++ ys)))
+    ∙ ap (λ (t : Bool). (a && b) && t) (agrees_append e (i + 1) xs ys ∙ ap (λ (k : ℕ). Agrees e (i + 1) xs && Agrees e k ys) n)
+    ∙ sym (and_assoc (a && b) (Agrees e (i + 1) xs) (Agrees e (i + suc (length xs)) ys))
+    ∙ ap (λ (t : Bool). t && Agrees e (i + suc (length xs)) ys) (sym (exchange a (no_nan xs) b (holds e (i + 1) (map bits_of xs))))
 
 -- ---- sums
 

@@ -4,7 +4,7 @@ use Rattle.std.specs.Float.{binary64}
 use Rattle.number.specs.Ops.{dec}
 use Rattle.fields.specs.Fields.{state_fields}
 use Rattle.ground.specs.Settle.{Result, termination_number}
-use Rattle.ground.specs.declared.Settled.{Settled}
+use Rattle.ground.specs.Settle.{Settled}
 use Rattle.input.specs.Input.{whole_at, settle_input_of}
 use Rattle.replaying.specs.declared.Sums.{Sums}
 use Rattle.replaying.specs.declared.Replayed.{Replayed}

@@ -2,6 +2,7 @@
 #![tactic(auto)]
 
 ghost use Rattle.std.specs.Prelude.{◌≡◌, ◌+◌, ◌*◌, ◌≤◌, not, ◌&&◌, map, length, drop, ◌==◌, is_nan};
+ghost use Rattle.ground.specs.Settle.{told_by};
 ghost use Rattle.input.specs.Input.{whole_at, settle_input_of};
 ghost use Rattle.replaying.specs.Replaying.{bits_of, sums_of, count_words, doubles_of, sum_words, holds, no_nan, same_of, replayed_of};
 
@@ -34,30 +35,26 @@ fn same_words(entry: &[u8], i: usize, words: &[u64]) -> bool
     requires { 8 * (i + length words.now) ≤ length entry.now }
     ensures { result ≡ holds entry.now i words.now }
 {
-    let mut k = 0;
-    while k < words.len() {
-        if words[k] != word(entry, i + k) {
+    for (k, w) in words.iter().enumerate() {
+        if *w != word(entry, i + k) {
             return false;
         }
-        k += 1;
     }
     true
 }
 
 // The bits of v. Those of a NaN are free, and all ones stand for them; the list holds no NaN.
+#[tactic(auto, unfolding(crate::specs::Replaying::bits_of))]
 fn bits(v: f64) -> u64
     ensures { result ≡ bits_of v }
 {
-    if v == v {
-        return f64::to_bits(v);
-    }
-    18446744073709551615
+    if v.is_nan() { u64::MAX } else { v.to_bits() }
 }
 
 fn same_double(v: f64, expected: u64) -> bool
     ensures { result ≡ (not (is_nan v) && bits_of v == expected) }
 {
-    (v == v) & (bits(v) == expected)
+    !v.is_nan() & (bits(v) == expected)
 }
 
 // The words from word i on are the bits of these doubles, and none is a NaN.
@@ -65,11 +62,8 @@ fn same_doubles(entry: &[u8], i: usize, doubles: &[f64]) -> bool
     requires { 8 * (i + length doubles.now) ≤ length entry.now }
     ensures { result ≡ (no_nan doubles.now && holds entry.now i (map bits_of doubles.now)) }
 {
-    let mut k = 0;
-    while k < doubles.len() {
-        if same_double(doubles[k], word(entry, i + k)) {
-            k += 1;
-        } else {
+    for (k, v) in doubles.iter().enumerate() {
+        if !same_double(*v, word(entry, i + k)) {
             return false;
         }
     }
@@ -77,14 +71,13 @@ fn same_doubles(entry: &[u8], i: usize, doubles: &[f64]) -> bool
 }
 
 // The words 3 to 8.
-fn same_counts(entry: &[u8], s: Settled) -> bool
+fn same_counts(entry: &[u8], s: &Settled) -> bool
     requires { 200 ≤ length entry.now }
-    ensures { result ≡ holds entry.now 3 (count_words s) }
+    ensures { result ≡ holds entry.now 3 (count_words (told_by s.now)) }
 {
-    let t = s.termination;
     let counts = [
-        s.answer as u64,
-        ground::termination_number(t),
+        refusal::answer(&s.outcome) as u64,
+        ground::termination_number(s.outcome.ok()),
         s.contacts as u64,
         s.points as u64,
         s.steps,
@@ -94,35 +87,24 @@ fn same_counts(entry: &[u8], s: Settled) -> bool
 }
 
 // The words 9 to 22: the final state and the rectangle.
-fn same_end(entry: &[u8], s: Settled) -> bool
+fn same_end(entry: &[u8], s: &Settled) -> bool
     requires { 200 ≤ length entry.now }
-    ensures { result ≡ (no_nan (doubles_of s) && holds entry.now 9 (map bits_of (doubles_of s))) }
+    ensures { result ≡ (no_nan (doubles_of (told_by s.now)) && holds entry.now 9 (map bits_of (doubles_of (told_by s.now)))) }
 {
-    let rest = s.rest;
-    let pos = rest.pos;
-    let vel = rest.vel;
-    let spin = rest.spin;
-    let rect = s.rect;
-    let doubles = [
-        rest.time, pos.x, pos.y, pos.z, vel.x, vel.y, vel.z, spin.x, spin.y, spin.z, rect.x_lo,
-        rect.x_hi, rect.z_lo, rect.z_hi,
-    ];
-    same_doubles(entry, 9, &doubles)
+    let rect = [s.rect.x_lo, s.rect.x_hi, s.rect.z_lo, s.rect.z_hi];
+    same_doubles(entry, 9, &fields::state_numbers(&s.rest)) & same_doubles(entry, 19, &rect)
 }
 
 // For each double of bits w: a = a + w, then b = b + a, both modulo 2^64.
 fn add_list(sums: Sums, list: &[f64]) -> Sums
     ensures { result ≡ sums_of sums list.now }
 {
-    let mut a = sums.a;
-    let mut b = sums.b;
-    let mut i = 0;
-    while i < list.len() {
-        a = std::num::wrapping_add_u64(a, bits(list[i]));
-        b = std::num::wrapping_add_u64(b, a);
-        i += 1;
+    let mut s = sums;
+    for v in list {
+        s.a = s.a.wrapping_add(bits(*v));
+        s.b = s.b.wrapping_add(s.a);
     }
-    Sums { a, b }
+    s
 }
 
 // The words 23 and 24.
@@ -131,8 +113,7 @@ fn same_lists(entry: &[u8], contacts: &[f64], points: &[f64]) -> bool
     ensures { result ≡ holds entry.now 23 (sum_words contacts.now points.now) }
 {
     let sums = add_list(add_list(Sums { a: 0, b: 0 }, contacts), points);
-    let words = [sums.a, sums.b];
-    same_words(entry, 23, &words)
+    same_words(entry, 23, &[sums.a, sums.b])
 }
 
 // Settles the entry's input with these lists lent, and compares everything that the call gives.
@@ -141,33 +122,30 @@ fn gives_same(entry: &[u8], contacts: &mut [f64], points: &mut [f64]) -> bool
     ensures { result ≡ same_of entry.now (settle_input_of (drop 200 entry.now) contacts.old points.old) }
 {
     let s = input::settle_input(&entry[200..], false, contacts, points);
-    same_counts(entry, s) & same_end(entry, s) & same_lists(entry, contacts, points)
+    same_counts(entry, &s) & same_end(entry, &s) & same_lists(entry, contacts, points)
 }
 
 // Replays an entry, every lent double 1.0 before the call. An entry lends at most 65 contacts and 641 points.
 pub fn replay_entry(entry: &[u8]) -> Replayed
     ensures { result ≡ replayed_of entry.now }
 {
-    if entry.len() < 200 {
-        return Replayed::Damaged;
-    }
-    if word(entry, 0) != (entry.len() - 200) as u64 {
+    if entry.len() < 200 || word(entry, 0) != (entry.len() - 200) as u64 {
         return Replayed::Damaged;
     }
     let c = word(entry, 1);
     let p = word(entry, 2);
-    if c > 1300 {
+    if c > 1300 || p > 7692 {
         return Replayed::Damaged;
     }
-    if p > 7692 {
-        return Replayed::Damaged;
-    }
-    let c_len = c as usize;
-    let p_len = p as usize;
     let mut contacts = [1.0; 1300];
     let mut points = [1.0; 7692];
-    if gives_same(entry, &mut contacts[..c_len], &mut points[..p_len]) {
-        return Replayed::Same;
+    if gives_same(
+        entry,
+        &mut contacts[..c as usize],
+        &mut points[..p as usize],
+    ) {
+        Replayed::Same
+    } else {
+        Replayed::Differs
     }
-    Replayed::Differs
 }

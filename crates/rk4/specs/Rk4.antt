@@ -1,7 +1,7 @@
 -- Definitions. One step of the classical fourth-order Runge-Kutta method, as rk4.rs computes it: `step` sums the stages and then scales,
 -- `step_state` adds the scaled stages one by one. Both are written once, over a record of operations.
 -- Assumes nothing.
-use Rattle.std.specs.Prelude.{Float}
+use Rattle.std.specs.Prelude.{◌≡◌, Float}
 use Rattle.number.specs.Ops.{◌⊕◌, ◌⊘◌, dec}
 use Rattle.vector.specs.Vec.{vadd, vscale}
 use Rattle.vector.specs.declared.DVec3.{DVec3}
@@ -87,3 +87,9 @@ add_scaled s rate h =
 -- rk4.rs, fn step_state, in doubles
 unfoldable pub step_state_of : (Motion → Float → Motion) → Motion → Float → Float → Motion
 step_state_of f s t dt = step_state_in doubles add_scaled f s t dt
+
+-- that r is a step of `step_state` from s, where k1 is the derivative at s, and `computes` says what the derivative may give: whatever function g that is,
+-- and whatever the time, which g does not use
+abbrev pub IsStep : (Motion → Motion → Type 0) → Motion → Motion → Float → Motion → Type 0
+IsStep computes s k1 h r =
+    (g : Motion → Motion) (t : Float) → k1 ≡ g s → ((x y : Motion) → computes x y → y ≡ g x) → r ≡ step_state_of (λ x _. g x) s t h

@@ -16,9 +16,9 @@ use Rattle.tally.specs.Inner.{place, Reached, MakesStep}
 use Rattle.tally.specs.declared.Conditions.{Conditions}
 use Rattle.tally.specs.declared.Tally.{Tally}
 use Rattle.tally.proofs.Reached.{begun, step_made_lem}
-use Rattle.roll.specs.Roll.{ending, roll, step_on, last_of, point_due, held_of, put_down, made_of, ground_step}
+use Rattle.roll.specs.Roll.{ending, roll, step_on, point_due, held_of, put_down, ground_step}
 use Rattle.roll.specs.declared.Roll.{Roll}
-use Rattle.roll.specs.declared.LastPhase.TheVariants.{Some}
+use Rattle.std.specs.Prelude.{Some}
 use Rattle.roll.specs.declared.Ending.{Ending}
 
 abbrev pub to_rest : BallState → M (Pass Roll Ending)
@@ -40,7 +40,7 @@ module _ (c : Conditions) (g : Roll) (s : Stepped) (due : Bool) where
 
 -- the step is made and counted
 pub stepped : {o : Oracle} {t t' : Tally} {lc lp : List Float} (c : Conditions) (g : Roll) {s : Stepped} {due : Bool} → s ≡ step_on c g
-    → due ≡ point_due g.state.time g.next_sample (last_of g.last) s.phase
+    → due ≡ point_due g.state.time g.next_sample g.last s.phase
     → MakesStep t s.evaluations t' → Reached o (ground_step c g) (place t lc lp) 1 (to_push c g s due) (place t' lc lp)
 unfolding ground_step
 stepped c g es ed r = rw (ed, ← es) (step_made_lem _ _ begun r)

@@ -1,6 +1,5 @@
 -- Definitions. One pass of the ground: the body of the second loop of ground.rs, fn settle, with the tests and the count of steps that 01 adds.
-use Rattle.std.specs.Prelude.{ℕ, Bool, true, false, ◌&&◌, ◌||◌, not, eqb, Float}
-use Rattle.std.proofs.Math.Option.{Option, none, some}
+use Rattle.std.specs.Prelude.{ℕ, Bool, true, false, ◌&&◌, ◌||◌, not, eqb, Float, Option, Some, None}
 use Rattle.number.specs.Ops.{◌⊖◌}
 use Rattle.number.specs.Number.{min_of}
 use Rattle.vector.specs.Vec.{zero3, same_vec}
@@ -18,8 +17,6 @@ use Rattle.tally.specs.Language.{M, ◌>>=◌, ◌>>◌, pure, when, make_step, 
 use Rattle.std.specs.Prelude.{if◌then◌else◌}
 use Rattle.tally.specs.declared.Conditions.{Conditions}
 use Rattle.roll.specs.declared.Roll.{Roll}
-use Rattle.roll.specs.declared.LastPhase.{LastPhase}
-use Rattle.roll.specs.declared.LastPhase.TheVariants.{None, Some}
 use Rattle.roll.specs.declared.Ending.{Ending}
 use Rattle.state.specs.declared.Termination.{Termination}
 use Rattle.state.specs.declared.Termination.TheVariants.{Rest}
@@ -27,7 +24,7 @@ use Rattle.state.specs.declared.Termination.TheVariants.{Rest}
 abbrev pub ending : Termination → BallState → Ending
 ending h s = record { how = h; state = s }
 
-abbrev pub roll : BallState → GroundSample → Float → LastPhase → Roll
+abbrev pub roll : BallState → GroundSample → Float → Option Phase → Roll
 roll s at next last = record { state = s; «at» = at; next_sample = next; last = last }
 
 -- before the first pass: `let mut next_sample = state.time; let mut last_phase = None`
@@ -46,15 +43,10 @@ whole_phase Hop = 0
 whole_phase Slide = 1
 whole_phase InRoll = 2
 
--- the code's type, which has no `Option`, as the Rust's
-unfoldable pub last_of : LastPhase → Option Phase
-last_of None = none
-last_of (Some phase) = some phase
-
 -- `last_phase == Some(phase)`
 abbrev pub was_phase : Option Phase → Phase → Bool
-was_phase none phase = false
-was_phase (some last) phase = eqb (whole_phase last) (whole_phase phase)
+was_phase None phase = false
+was_phase (Some last) phase = eqb (whole_phase last) (whole_phase phase)
 
 -- `state.time >= next_sample - TIME_EPS || last_phase != Some(phase)`
 unfoldable pub point_due : Float → Float → Option Phase → Phase → Bool
@@ -81,7 +73,7 @@ made_of state s = record { from = state; to = s.state; phase = s.phase; rolling 
 unfoldable pub ground_step : Conditions → Roll → M (Pass Roll Ending)
 ground_step c g = do
   s ← make_step (made_of g.state (step_on c g))
-  let due = point_due g.state.time g.next_sample (last_of g.last) s.phase
+  let due = point_due g.state.time g.next_sample g.last s.phase
   when due (push_point g.state s.phase)
   under ← look s.to.pos.x s.to.pos.z
   b ← test (put_down c g s.to s.rolling under)

@@ -2,16 +2,21 @@
 #![tactic(auto)]
 
 ghost use Rattle.std.specs.Prelude.{◌≡◌, ◌<◌};
+ghost use Rattle.std.specs.Prelude.{◌&&◌};
+ghost use Rattle.vector.specs.Vec.{same_vec, zero3};
+ghost use Rattle.contact.specs.Contact.{sample_holds};
 ghost use Rattle.course.specs.Sheet.{course_of};
-ghost use Rattle.course.specs.Index.{Ready};
 ghost use Rattle.tally.specs.Inner.{Bounded};
-ghost use Rattle.roll.specs.Roll.{step_on, whole_phase, last_of, was_phase, point_due, held_of, put_down};
+ghost use Rattle.roll.specs.Roll.{step_on, whole_phase, point_due, held_of, put_down};
 ghost use Rattle.roll.specs.Inner.{RollPasses};
 
+use course::Course;
+use refusal::Refusal;
 use rolling::Stepped;
 use state::{BallState, Phase, Termination};
+use std::ops::ControlFlow;
 use surface::GroundSample;
-use tally::{Conditions, Looked, PointPush, Tally, Tested};
+use tally::{Conditions, Tally};
 use vector::DVec3;
 
 // How a settle that went well ended, and its final state.
@@ -21,43 +26,26 @@ pub struct Ending {
     pub state: BallState,
 }
 
-// The phase of the last step, if there was one: the Rust's `Option<Phase>`.
-#[derive(Clone, Copy)]
-pub enum LastPhase {
-    None,
-    Some(Phase),
-}
-
-// What the ground loop carries from pass to pass.
+// What the ground loop carries from pass to pass. `last` is the phase of the last step, if there was one.
 #[derive(Clone, Copy)]
 pub struct Roll {
     pub state: BallState,
     pub at: GroundSample,
     pub next_sample: f64,
-    pub last: LastPhase,
-}
-
-// A pass goes on, ends at rest, or stops by a number, 21 or 22.
-#[derive(Clone, Copy)]
-pub enum RollPass {
-    On(Roll, Tally),
-    Over(Ending, Tally),
-    Ended(u32, Tally),
+    pub last: Option<Phase>,
 }
 
 // A contact step of at most dt, and not past t_end.
-fn step_on(c: Conditions, g: Roll) -> Stepped
-    ensures { result ≡ step_on c g }
+#[tactic(auto, unfolding(crate::specs::Roll::step_on))]
+fn step_on(c: &Conditions, g: &Roll) -> Stepped
+    ensures { result ≡ step_on c.now g.now }
 {
-    let state = g.state;
-    let at = g.at;
-    let physics = c.physics;
-    let ball = c.ball;
-    let h = number::min(physics.dt, c.t_end - state.time);
+    let physics = &c.physics;
+    let h = number::min(physics.dt, c.t_end - g.state.time);
     rolling::contact_step(
-        state,
-        at,
-        ball,
+        g.state,
+        g.at,
+        c.ball,
         h,
         physics.stop_speed,
         physics.roll_threshold,
@@ -65,127 +53,77 @@ fn step_on(c: Conditions, g: Roll) -> Stepped
 }
 
 // The phase as a number: 0 hop, 1 slide, 2 roll.
+#[tactic(auto, unfolding(crate::specs::Roll::whole_phase))]
 pub fn whole_phase(phase: Phase) -> u8
     ensures { result ≡ whole_phase phase }
 {
-    match phase {
-        Phase::Hop => 0,
-        Phase::Slide => 1,
-        Phase::Roll => 2,
-    }
+    phase as u8
 }
 
-// Whether the last step had this phase.
-fn was_phase(last: LastPhase, phase: Phase) -> bool
-    ensures { result ≡ was_phase (last_of last) phase }
+#[tactic(auto, unfolding(crate::specs::Roll::point_due))]
+fn point_due(t: f64, next_sample: f64, last: Option<Phase>, phase: Phase) -> bool
+    ensures { result ≡ point_due t next_sample last phase }
 {
-    match last {
-        LastPhase::None => false,
-        LastPhase::Some(was) => whole_phase(was) == whole_phase(phase),
-    }
+    tally::is_due(t, next_sample) || last != Some(phase)
 }
 
-fn point_due(t: f64, next_sample: f64, last: LastPhase, phase: Phase) -> bool
-    ensures { result ≡ point_due t next_sample (last_of last) phase }
+// Whether the ball is at rest on ground that holds it.
+#[tactic(auto, using(number::proofs::Steps::steps), unfolding(vector::specs::Vec::same_vec))]
+fn rests(s: &BallState, under: &GroundSample) -> bool
+    ensures { result ≡ (same_vec s.now.vel zero3 && sample_holds under.now) }
 {
-    if tally::is_due(t, next_sample) {
-        true
-    } else {
-        !was_phase(last, phase)
-    }
+    s.vel == DVec3::ZERO && contact::sample_holds(*under)
 }
 
 // Whether the ball stopped in a roll and stays where it is.
-fn held(s: Stepped, under: GroundSample) -> bool
-    ensures { result ≡ held_of s.phase s.state under }
+#[tactic(auto, unfolding(crate::specs::Roll::held_of))]
+fn held(s: &Stepped, under: &GroundSample) -> bool
+    ensures { result ≡ held_of s.now.phase s.now.state under.now }
 {
-    let phase = s.phase;
-    let state = s.state;
-    let vel = state.vel;
-    match phase {
-        Phase::Hop => false,
-        Phase::Slide => false,
-        Phase::Roll => {
-            if vel.same(DVec3::ZERO) {
-                contact::sample_holds(under)
-            } else {
-                false
-            }
-        }
-    }
+    s.phase == Phase::Roll && rests(&s.state, under)
 }
 
 // The ball after its step, put back onto the ground under it. Mostly it is there already, and nothing is handed over.
-fn put_down(c: Conditions, g: Roll, s: Stepped, under: GroundSample) -> BallState
-    ensures { result ≡ put_down c g s.state s.rolling under }
+#[tactic(auto, unfolding(crate::specs::Roll::put_down, contact::specs::Contact::onto_of))]
+fn put_down(c: &Conditions, g: &Roll, s: &Stepped, under: &GroundSample) -> BallState
+    ensures { result ≡ put_down c.now g.now s.now.state s.now.rolling under.now }
 {
-    let next = s.state;
-    let at = g.at;
-    let normal = at.normal;
-    let pos = next.pos;
-    let under_normal = under.normal;
-    if contact::is_onto(pos.y, under.height, under_normal, normal) {
-        return next;
+    let normal = g.at.normal;
+    if contact::is_onto(s.state.pos.y, under.height, under.normal, normal) {
+        return s.state;
     }
-    let ball = c.ball;
-    contact::onto_surface(next, under, normal, s.rolling, ball.radius_m())
+    contact::onto_surface(s.state, *under, normal, s.rolling, c.ball.radius_m())
 }
 
 // One pass.
 pub fn ground_step(
-    sheet: &[u8],
-    index: &[u64],
+    course: &Course,
     points: &mut [f64],
-    c: Conditions,
-    g: Roll,
-    t: Tally,
-) -> RollPass
-    requires ready { Ready sheet.now index.now }
-    requires steps_bound { t.steps < c.step_limit }
-    requires bounded { Bounded c t }
-    ensures { RollPasses (course_of sheet.now) c g t points.old result points.new }
+    c: &Conditions,
+    g: &Roll,
+    t: &mut Tally,
+) -> Result<ControlFlow<Ending, Roll>, Refusal>
+    requires steps_bound { t.old.steps < c.now.step_limit }
+    requires bounded { Bounded c.now t.old }
+    ensures { RollPasses (course_of course.now) c.now g.now t.old points.old result t.new points.new }
 {
-    let state = g.state;
     let s = step_on(c, g);
-    let t1 = tally::count_step(t, s.evaluations);
-    let phase = s.phase;
-    let last = g.last;
-    let due = point_due(state.time, g.next_sample, last, phase);
-    let sampled = tally::push_due(due, sheet, index, points, t1, state, phase);
-    let t2 = match sampled {
-        PointPush::Ended(a, after) => {
-            return RollPass::Ended(a, after);
-        }
-        PointPush::Made(after) => after,
-    };
-    let next = s.state;
-    let pos = next.pos;
-    let Looked::Saw(under, t3) = tally::look(sheet, index, t2, pos.x, pos.z) else {
-        return RollPass::Ended(22, t2);
-    };
-    let b = put_down(c, g, s, under);
-    let Tested::Good(t4) = tally::test(t3, b) else {
-        return RollPass::Ended(22, t3);
-    };
-    if held(s, under) {
-        let rested = tally::push_point(sheet, index, points, t4, b, Phase::Roll);
-        let t5 = match rested {
-            PointPush::Ended(a, after) => {
-                return RollPass::Ended(a, after);
-            }
-            PointPush::Made(after) => after,
-        };
-        let end = Ending {
+    t.count_step(s.evaluations);
+    let due = point_due(g.state.time, g.next_sample, g.last, s.phase);
+    t.push_due(due, course, points, &g.state, s.phase)?;
+    let under = t.look(course, s.state.pos.x, s.state.pos.z)?;
+    let b = t.test(put_down(c, g, &s, &under))?;
+    if held(&s, &under) {
+        t.push_point(course, points, &b, Phase::Roll)?;
+        return Ok(ControlFlow::Break(Ending {
             how: Termination::Rest,
             state: b,
-        };
-        return RollPass::Over(end, t5);
+        }));
     }
-    let on = Roll {
+    Ok(ControlFlow::Continue(Roll {
         state: b,
         at: under,
-        next_sample: tally::next_after(due, g.next_sample, state.time),
-        last: LastPhase::Some(phase),
-    };
-    RollPass::On(on, t4)
+        next_sample: tally::next_after(due, g.next_sample, g.state.time),
+        last: Some(s.phase),
+    }))
 }

@@ -1,20 +1,19 @@
 -- Lemmas. The root of a double below 2 ^ -61 is not above 1e-9: were it, the double 2 ^ -31 would be nearer the true root. Assumes nothing.
 use mathlib.Core.Path.{◌≡◌, refl, sym, subst}
 use mathlib.Core.Bool.{Bool, true, false}
-use Prim.Native.Nat.{ℕ, zero, suc, ◌+◌, ◌-◌, ◌*◌, ◌/◌, ◌^◌, ◌≤◌, ◌<◌}
+use Prim.Native.Nat.{ℕ, zero, suc, ◌+◌, ◌-◌, ◌*◌, ◌^◌, ◌≤◌, ◌<◌}
 use native.Mathlib.Nat.{mul_assoc, mul_comm, one-mul, zero-mul, mul-le-mul, mul-le-mul_right, mul-lt-mul_of_pos_right, mul-mul-mul_comm, zero-lt-suc}
 use native.Mathlib.Nat.{div-lt_iff_lt-mul, le-div_iff_mul-le}
 use native.Mathlib.Omega.{arith}
 use lib.Dec.{T, ltb→lt, lt→ltb}
-use lib.IntN.{ℤ, pos, negsuc}
+use lib.IntN.{ℤ, negsuc}
 use lib.Ieee.{Float, nan, inf, fin, binary64, up, down, fits, round, lt, is_nan}
 use lib.Ieee.Fits.{down_pos}
 use lib.Pow.{pow_pos}
-use Rattle.number.specs.Ops.{dec}
 use Rattle.number.specs.Order.{lt_trans}
 use Rattle.root.specs.Root.{in_units, root_of}
-use Rattle.root.specs.Finite.{Plus, root-plus}
-use Rattle.root.specs.Nearest.{positive_part, negative_part, Less, twice_halfway, squared, root_nearest}
+use Rattle.root.specs.Finite.{root-plus}
+use Rattle.root.specs.Nearest.{Less, twice_halfway, squared, root_nearest}
 use Rattle.vector.specs.declared.DVec3.{DVec3}
 use Rattle.vector.specs.Vec.{vlength, vlength_squared}
 use Rattle.slide.specs.Slide.{slip_eps}

@@ -16,7 +16,6 @@ use Rattle.rk4.specs.Rk4.{step_state_of}
 use Rattle.contact.specs.declared.Locked.{Locked}
 use Rattle.contact.specs.Contact.{slip_of, locked_of, saturated, tangential_gravity, holds_at_rest}
 use Rattle.slide.specs.declared.Patch.{Patch}
-use Rattle.rolling.specs.declared.RollPatch.{RollPatch}
 use Rattle.rolling.specs.declared.Stepped.{Stepped}
 use Rattle.slide.specs.declared.Slid.{Slid}
 use Rattle.state.specs.declared.Phase.TheVariants.{Slide, Roll}
@@ -62,6 +61,16 @@ slide_step p state vel dt roll_threshold =
 -- ---- rolling
 
 -- what stays the same over a step of a ball that rolls
+pub record RollPatch : Type 0 where
+  pub n : DVec3
+  pub surface : Surface
+  pub g_n : Float
+  pub slope : DVec3
+  pub downhill : DVec3
+  pub radius : Float
+  pub k : Float
+  pub pivot_accel : DVec3
+
 unfoldable pub roll_patch_of : Patch → Surface → RollPatch
 roll_patch_of p surface =
     let slope = vdivs p.g_t (dec 1 1 ⊕ p.k) in

@@ -1,7 +1,6 @@
 -- The test that corrects an estimate r of the root of m * 2 ^ 52, for r = a * 2 ^ 27 + b: the difference m * 2 ^ 52 - r * r is g - s, and by it r, r + 1 or r
 -- - 1 is the nearest. Assumes nothing.
 use mathlib.Core.Path.{◌≡◌, ap, ◌∙◌}
-use mathlib.Core.Logic.{◌⊎◌, inl, inr}
 use Prim.Native.Nat.{ℕ, ◌+◌, ◌-◌, ◌*◌, ◌/◌, ◌%◌, ◌≤◌, ◌<◌}
 use native.Mathlib.Nat.{mul-le-mul_right}
 use native.Mathlib.Omega.{arith}
@@ -31,18 +30,22 @@ exact m r a b e f p q h =
     let x : r * r ≡ a * a * 18014398509481984 + a * b * 268435456 + b * b = ap (λ (z : ℕ). z * z) p ∙ omega arith in
     omega arith
 
--- r, one more or one less
-pub choose : (m r g s t u : ℕ) → g + r * r ≡ m * 4503599627370496 + s → s + 2 < g + r * 3 → g ≤ s + r * 3 + 2
-    → ((s + r < g) × (u ≡ r + 1)) ⊎ ((g ≤ s + r) × (u ≡ r)) → ((g + r ≤ s) × (t ≡ r - 1)) ⊎ ((s < g + r) × (t ≡ u)) → 4503599627370496 ≤ t
+-- one less, one more, or r itself
+pub less : (m r g s t : ℕ) → g + r * r ≡ m * 4503599627370496 + s → s + 2 < g + r * 3 → g + r ≤ s → t ≡ r - 1 → 4503599627370496 ≤ t
     → t < 9007199254740992 → Near m t
-choose m r g s t u e lo hi (inl (p, q)) (inl (h, k)) l n = absurd (omega arith)
-choose m r g s t u e lo hi (inr (p, q)) (inl (h, k)) l n =
+less m r g s t e lo h k l n =
     let v : r ≡ t + 1 = omega arith in
     let x : r * r ≡ t * t + t * 2 + 1 = ap (λ (z : ℕ). z * z) v ∙ omega arith in
     omega arith
-choose m r g s t u e lo hi (inl (p, q)) (inr (h, k)) l n =
-    let x : t * t ≡ r * r + r * 2 + 1 = ap (λ (z : ℕ). z * z) (k ∙ q) ∙ omega arith in
+
+pub more : (m r g s t : ℕ) → g + r * r ≡ m * 4503599627370496 + s → g ≤ s + r * 3 + 2 → s + r < g → t ≡ r + 1 → 4503599627370496 ≤ t
+    → t < 9007199254740992 → Near m t
+more m r g s t e hi h k l n =
+    let x : t * t ≡ r * r + r * 2 + 1 = ap (λ (z : ℕ). z * z) k ∙ omega arith in
     omega arith
-choose m r g s t u e lo hi (inr (p, q)) (inr (h, k)) l n =
-    let x : t * t ≡ r * r = ap (λ (z : ℕ). z * z) (k ∙ q) in
+
+pub kept : (m r g s t : ℕ) → g + r * r ≡ m * 4503599627370496 + s → g ≤ s + r → s < g + r → t ≡ r → 4503599627370496 ≤ t
+    → t < 9007199254740992 → Near m t
+kept m r g s t e h i k l n =
+    let x : t * t ≡ r * r = ap (λ (z : ℕ). z * z) k in
     omega arith

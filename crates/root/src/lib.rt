@@ -15,8 +15,7 @@ fn digits(m: u64) -> u64
     let mut root = 0u64;
     let mut rem = 0u64;
     let mut rest = m;
-    let mut i = 0u64;
-    while i < 53 {
+    for _ in 0..53u64 {
         let c = rem * 4 + rest / 4503599627370496;
         rest = rest % 4503599627370496 * 4;
         let t = root * 4 + 1;
@@ -27,7 +26,6 @@ fn digits(m: u64) -> u64
             rem = c - t;
             root = root * 2 + 1;
         }
-        i += 1;
     }
     if root < rem { root + 1 } else { root }
 }
@@ -41,36 +39,32 @@ fn corrected(m: u64, r: u64) -> u64
     let a = r / 134217728;
     let b = r % 134217728;
     let q = a * a * 4;
-    if q <= m + 64 {
-        let e = m + 64 - q;
-        let p = a * b;
-        if e < 274877906944 {
-            if p <= e * 16777216 {
-                let f = e * 16777216 - p;
-                if f < 34359738368 {
-                    let g = f * 268435456;
-                    let s = b * b + 288230376151711744;
-                    let mut t = r;
-                    if s + r < g {
-                        t = r + 1;
-                    }
-                    if g + r <= s {
-                        t = r - 1;
-                    }
-                    if s + 2 < g + r * 3 {
-                        if g <= s + r * 3 + 2 {
-                            if t >= 4503599627370496 {
-                                if t < 9007199254740992 {
-                                    return t;
-                                }
-                            }
-                        }
-                    }
-                }
-            }
-        }
+    if m + 64 < q {
+        return digits(m);
     }
-    digits(m)
+    let e = m + 64 - q;
+    let p = a * b;
+    if e >= 274877906944 || e * 16777216 < p {
+        return digits(m);
+    }
+    let f = e * 16777216 - p;
+    if f >= 34359738368 {
+        return digits(m);
+    }
+    let g = f * 268435456;
+    let s = b * b + 288230376151711744;
+    let t = if g + r <= s {
+        r - 1
+    } else if s + r < g {
+        r + 1
+    } else {
+        r
+    };
+    if s + 2 < g + r * 3 && g <= s + r * 3 + 2 && 4503599627370496 <= t && t < 9007199254740992 {
+        t
+    } else {
+        digits(m)
+    }
 }
 
 // s without its last 27 digits.
@@ -78,11 +72,12 @@ fn cut(s: f64) -> f64
     requires { T (not (is_nan s)) }
     ensures { result ≡ cut_of s }
 {
-    f64::from_bits(f64::to_bits(s) / 134217728 * 134217728)
+    f64::from_bits(s.to_bits() / 134217728 * 134217728)
 }
 
 // An estimate of the root of the positive double x, of which b are the bits. y0 is a seed for a multiple of 1 / root x, and t a multiple of x * y0 * y0, within 12.5%.
 // f * q is a cubic in t; y is 1 / (2 root x) to 2^-21. sh is the first estimate of the root cut to 26 digits, so that sh * sh and sh * sh - x are exact.
+#[tactic(auto, using(crate::proofs::Patterns::no_nan))]
 fn estimate(x: f64, b: u64) -> f64
     requires { b < 9218868437227405312 }
     ensures { result ≡ estimate_of x b }
@@ -94,7 +89,7 @@ fn estimate(x: f64, b: u64) -> f64
     let hf = x * y0 * f;
     let y = y0 * f * q;
     let s = (hf + hf) * q;
-    if s != s {
+    if s.is_nan() {
         return s;
     }
     let sh = cut(s);
@@ -112,16 +107,14 @@ fn is_near(m: u64, r: u64) -> bool
     let a = r / 2097152;
     let k = a * a;
     let n = m * 1024 + 1024;
-    if n < k {
+    if n < k || n - k >= a * 4 {
         return false;
     }
     let d = n - k;
-    if d >= a * 4 {
-        return false;
-    }
     let h = d * 2097152;
     let l = r % 2097152 * 2 + 1;
     let p = a * l + l * l / 8388608 + 2147483648;
+    // Apart: joined by `&&`, both tests are worked out on the machine, and in the hot path.
     if p < h {
         return false;
     }
@@ -129,6 +122,7 @@ fn is_near(m: u64, r: u64) -> bool
 }
 
 // m, by the field and the digits of w: the digits with the leading one, doubled where the field is odd.
+#[tactic(auto, using(crate::proofs::Rooted::doubled, crate::proofs::Rooted::single))]
 fn radicand(w: u64) -> u64
     ensures { Radicand w result }
 {
@@ -146,22 +140,21 @@ fn sure(b: u64, w: u64) -> bool
     ensures { (result ≡ true → RootBits b w) × (result ≡ is_sure b w) }
 {
     let v = b + 4607182418800017408;
-    if w / 4503599627370496 != v / 9007199254740992 {
-        return false;
-    }
-    is_near(radicand(v), w % 4503599627370496 + 4503599627370496)
+    w / 4503599627370496 == v / 9007199254740992
+        && is_near(radicand(v), w % 4503599627370496 + 4503599627370496)
 }
 
 // The whole number nearest the root of m * 2^52. p are the bits of m / 2^52.
+#[tactic(auto, using(crate::proofs::Patterns::no_nan))]
 fn near(m: u64, p: u64) -> u64
     requires { ((4503599627370496 ≤ m) × (m < 18014398509481983)) × (p < 9218868437227405312) }
     ensures { Near m result }
 {
     let w = estimate(f64::from_bits(p), p);
-    if w != w {
+    if w.is_nan() {
         return digits(m);
     }
-    let b = f64::to_bits(w);
+    let b = w.to_bits();
     corrected(m, b % 4503599627370496 + 4503599627370496)
 }
 
@@ -173,16 +166,12 @@ fn aligned(b: u64) -> u64
     if b >= 4503599627370496 {
         return b + 4607182418800017408;
     }
-    let mut t = b;
-    let mut j = 0u64;
-    while t < 4503599627370496 {
-        t = t * 2;
-        j += 1;
-    }
-    t - 4503599627370496 + (1024 - j) * 4503599627370496
+    let j = 52 - b.ilog2();
+    (b << j) - 4503599627370496 + (1024 - j as u64) * 4503599627370496
 }
 
 // The bits of the root of the finite double above 0 with the bits b.
+
 fn positive(b: u64) -> u64
     requires { (0 < b) × (b < 9218868437227405312) }
     ensures { RootBits b result }
@@ -198,60 +187,52 @@ fn positive(b: u64) -> u64
 pub fn guess(x: f64) -> u64
     ensures { Guess x result × (result ≡ guess_of x) }
 {
-    if x != x {
+    if x.is_nan() {
         return 0;
     }
-    let b = f64::to_bits(x);
-    if b < 4503599627370496 {
-        return 0;
-    }
-    if b >= 9218868437227405312 {
+    let b = x.to_bits();
+    if b < 4503599627370496 || b >= 9218868437227405312 {
         return 0;
     }
     let w = estimate(x, b);
-    if w != w {
+    if w.is_nan() {
         return 0;
     }
-    let r = f64::to_bits(w);
-    if sure(b, r) {
-        return r;
-    }
-    0
+    let r = w.to_bits();
+    if sure(b, r) { r } else { 0 }
 }
 
 // The root of any double, digit by digit at the worst.
+#[tactic(auto, using(crate::proofs::Patterns::no_nan))]
 fn exact(x: f64) -> f64
     ensures { result ≡ root_of x }
 {
-    if x != x {
+    if x.is_nan() {
         return x;
     }
-    let b = f64::to_bits(x);
+    let b = x.to_bits();
     if b == 0 {
-        return x;
+        x
+    } else if b < 9218868437227405312 {
+        f64::from_bits(positive(b))
+    } else if b == 9218868437227405312 {
+        x
+    } else if b == 9223372036854775808 {
+        -0.0
+    } else {
+        f64::NAN
     }
-    if b < 9218868437227405312 {
-        return f64::from_bits(positive(b));
-    }
-    if b == 9218868437227405312 {
-        return x;
-    }
-    if b == 9223372036854775808 {
-        return -0.0;
-    }
-    0.0 / 0.0
 }
 
+#[tactic(auto, using(crate::proofs::Patterns::no_nan))]
 pub fn root(x: f64) -> f64
     ensures { result ≡ root_of x }
 {
     let r = guess(x);
-    if r != 0 {
-        return f64::from_bits(r);
-    }
-    exact(x)
+    if r != 0 { f64::from_bits(r) } else { exact(x) }
 }
 
+#[tactic(auto, unfolding(crate::specs::Root::hypot_of))]
 pub fn hypot(a: f64, b: f64) -> f64
     ensures { result ≡ hypot_of a b }
 {

@@ -1,5 +1,7 @@
 -- Statements. What holds of the search whatever is evaluated: at most 200 evaluations, and the answer within the bracket. Assumes nothing.
 use Prim.Native.Nat.{ℕ, zero, suc, ◌+◌, ◌≤◌}
+use Rattle.std.specs.declared.ops.ControlFlow.{ControlFlow}
+use Rattle.std.specs.declared.ops.ControlFlow.TheVariants.{Continue, Break}
 use Rattle.std.proofs.Common.{arith, ◌∙◌, length-append}
 use Rattle.std.specs.Prelude.{◌≡◌, Bool, true, false, cond, List, [], ◌∷◌, ◌++◌, Float, length, T}
 use Rattle.std.proofs.Math.Path.{refl, ap}
@@ -12,16 +14,16 @@ use Rattle.number.specs.Order.{le_through, le_self, within_lo, within_hi, within
 use Rattle.number.specs.Rounding.{midpoint}
 use Rattle.search.specs.declared.Bracket.{Bracket}
 use Rattle.search.specs.declared.Search.{Search}
-use Rattle.search.specs.declared.RootStep.{RootStep}
-use Rattle.search.specs.declared.RootStep.TheVariants.{Next, Found}
+use Rattle.search.specs.declared.End.{End}
+use Rattle.search.specs.declared.End.TheVariants.{Lo, Hi}
 use Rattle.search.specs.Search.{Does, root_from, find_root, after_step, plain, Counted, counting, counted, start, middle, tolerance, in_bracket, narrowed, onward, replaced, inside, chord, next_try}
 
 -- ---- the number of evaluations
 
 -- what holds of a step that goes on and of a step that ends holds of every step
-by_step : (P : RootStep → Type 0) → ((s : Search) → P (Next s)) → ((x : Float) → P (Found x)) → (r : RootStep) → P r
-by_step P n f (Next s) = n s
-by_step P n f (Found x) = f x
+by_step : (P : ControlFlow Float Search → Type 0) → ((s : Search) → P (Continue s)) → ((x : Float) → P (Break x)) → (r : ControlFlow Float Search) → P r
+by_step P n f (Continue s) = n s
+by_step P n f (Break x) = f x
 
 -- that at most n of something are counted on a way to evaluate: none in a value, and in one part after another those of both
 pub record Counts {m : Type 0 → Type 0} (d : Does m) : Type 1 where
@@ -120,9 +122,9 @@ abbrev pub Ready : Float → Float → Search → Type 0
 Ready lo hi s = Ordered lo hi s.bracket × T (fits binary64 s.x)
 
 -- a step goes on with its bracket in order, or ends with a root within lo and hi
-abbrev pub Kept : Float → Float → RootStep → Type 0
-Kept lo hi (Next s) = Ready lo hi s
-Kept lo hi (Found x) = Within lo hi x
+abbrev pub Kept : Float → Float → ControlFlow Float Search → Type 0
+Kept lo hi (Continue s) = Ready lo hi s
+Kept lo hi (Break x) = Within lo hi x
 
 -- that P holds of each value that may come out of a way to evaluate
 pub record Every {m : Type 0 → Type 0} (d : Does m) : Type 1 where
@@ -187,7 +189,7 @@ module _ (lo hi : Float) (lo_about : T (about_of largest lo)) (hi_about : T (abo
       (λ _. record { low = le_through lo b.lo x o.low p; ends = q; high = o.high; lo_fits = xf; hi_fits = o.hi_fits })
       (record { low = o.low; ends = p; high = le_through x b.hi hi q o.high; lo_fits = o.lo_fits; hi_fits = xf })
 
-  kept_onward : (b : Bracket) (side : ℕ) → Ordered lo hi b → Kept lo hi (onward b side)
+  kept_onward : (b : Bracket) (side : End) → Ordered lo hi b → Kept lo hi (onward b side)
   unfolding onward
   kept_onward b side o = either (Kept lo hi) (inside b (middle b)) (λ _. (o, next_fits b)) (hi_within b o)
 
@@ -201,13 +203,13 @@ module _ (lo hi : Float) (lo_about : T (about_of largest lo)) (hi_about : T (abo
       let w = in_bracket_within s o in
       either (Kept lo hi) (le (abs_of fx) tolerance)
       (λ _. within_of_lem lo hi x (le_through lo b.lo x o.low (within_lo b.lo b.hi x w)) (le_through x b.hi hi (within_hi b.lo b.hi x w) o.high))
-      (kept_onward (replaced s x fx) (cond (lt (dec 0 1) fx) 1 2) (ordered_replaced s x fx (in_bracket_fits s r.1) o w))
+      (kept_onward (replaced s x fx) (cond (lt (dec 0 1) fx) Lo Hi) (ordered_replaced s x fx (in_bracket_fits s r.1) o w))
 
   after_within : {m : Type 0 → Type 0} {d : Does m} (e : Every d) (k : Search → m Float)
       → ((s : Search) → Ready lo hi s → e.holds (Within lo hi) (k s))
-      → (r : RootStep) → Kept lo hi r → e.holds (Within lo hi) (after_step d k r)
-  after_within e k h (Next s) o = h s o
-  after_within e k h (Found x) w = e.of_pure (Within lo hi) x w
+      → (r : ControlFlow Float Search) → Kept lo hi r → e.holds (Within lo hi) (after_step d k r)
+  after_within e k h (Continue s) o = h s o
+  after_within e k h (Break x) w = e.of_pure (Within lo hi) x w
 
   from_within : {m : Type 0 → Type 0} {d : Does m} (e : Every d) (f : Float → m Float) (n : ℕ) (s : Search)
       → Ready lo hi s → e.holds (Within lo hi) (root_from d f n s)

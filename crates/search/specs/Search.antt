@@ -1,13 +1,15 @@
 -- Definitions. The bounded search for a root: ground.rs, fn find_root, over any way to evaluate.
-use Rattle.std.specs.Prelude.{ℕ, zero, suc, ◌+◌, ◌-◌, ◌<◌, ◌≤◌, ◌≡◌, refl, eqb, Float, Bool, cond, ◌&&◌}
+use Rattle.std.specs.Prelude.{ℕ, zero, suc, ◌+◌, ◌-◌, ◌<◌, ◌≤◌, ◌≡◌, refl, Float, Bool, true, false, cond, Option, Some, None, ◌&&◌}
+use Rattle.std.specs.declared.ops.ControlFlow.{ControlFlow}
+use Rattle.std.specs.declared.ops.ControlFlow.TheVariants.{Continue, Break}
 use Rattle.std.proofs.Common.{not-suc-le-zero, sub-one}
 use Rattle.std.specs.Float.Ieee.{lt, le}
 use Rattle.number.specs.Ops.{◌⊕◌, ◌⊖◌, ◌⊗◌, ◌⊘◌, dec}
 use Rattle.number.specs.Number.{abs_of, within_of}
 use Rattle.search.specs.declared.Bracket.{Bracket}
 use Rattle.search.specs.declared.Search.{Search}
-use Rattle.search.specs.declared.RootStep.{RootStep}
-use Rattle.search.specs.declared.RootStep.TheVariants.{Next, Found}
+use Rattle.search.specs.declared.End.{End}
+use Rattle.search.specs.declared.End.TheVariants.{Lo, Hi}
 
 -- `ROOT_TOL`, `ROOT_MAX_ITER`
 abbrev pub tolerance : Float
@@ -24,9 +26,9 @@ middle b = dec 1 2 ⊗ (b.lo ⊕ b.hi)
 unfoldable pub inside : Bracket → Float → Bool
 inside b x = lt b.lo x && lt x b.hi
 
--- before the first evaluation no end has been replaced: side 0
+-- before the first evaluation no end has been replaced
 unfoldable pub start : Bracket → Float → Search
-start b guess = record { bracket = b; x = guess; side = 0 }
+start b guess = record { bracket = b; x = guess; side = None }
 
 -- `if !(lo..=hi).contains(&x) { x = 0.5 * (lo + hi); }`: where the next evaluation is
 unfoldable pub in_bracket : Search → Float
@@ -36,14 +38,25 @@ in_bracket s = cond (within_of s.bracket.lo s.bracket.hi s.x) s.x (middle s.brac
 unfoldable pub halved_if : Bool → Float → Float
 halved_if again f = cond again (f ⊗ dec 1 2) f
 
+-- whether the end that was replaced last, if any, is lo, or is hi
+abbrev pub is_lo : Option End → Bool
+is_lo (Some Lo) = true
+is_lo (Some Hi) = false
+is_lo None = false
+
+abbrev pub is_hi : Option End → Bool
+is_hi (Some Lo) = false
+is_hi (Some Hi) = true
+is_hi None = false
+
 -- the bracket after the evaluation fx at x: the end on the side of fx becomes x with fx, and the other end's value is halved
--- where that side was replaced the last time too (side 1: lo, above the root; side 2: hi, not above, a NaN among them)
+-- where that side was replaced the last time too (lo: above the root; hi: not above, a NaN among them)
 unfoldable pub replaced : Search → Float → Float → Bracket
 replaced s x fx =
     let b = s.bracket in
     cond (lt (dec 0 1) fx)
-    (record { lo = x; f_lo = fx; hi = b.hi; f_hi = halved_if (eqb s.side 1) b.f_hi })
-    (record { lo = b.lo; f_lo = halved_if (eqb s.side 2) b.f_lo; hi = x; f_hi = fx })
+    (record { lo = x; f_lo = fx; hi = b.hi; f_hi = halved_if (is_lo s.side) b.f_hi })
+    (record { lo = b.lo; f_lo = halved_if (is_hi s.side) b.f_lo; hi = x; f_hi = fx })
 
 -- `lo + (hi - lo) * (f_lo / (f_lo - f_hi))` where the values fall, the middle elsewhere
 unfoldable pub chord : Bracket → Float
@@ -54,12 +67,12 @@ unfoldable pub next_try : Bracket → Float
 next_try b = cond (inside b (chord b)) (chord b) (middle b)
 
 -- a bracket whose middle is not strictly inside gives hi: the `break`
-unfoldable pub onward : Bracket → ℕ → RootStep
-onward b side = cond (inside b (middle b)) (Next (record { bracket = b; x = next_try b; side = side })) (Found b.hi)
+unfoldable pub onward : Bracket → End → ControlFlow Float Search
+onward b side = cond (inside b (middle b)) (Continue (record { bracket = b; x = next_try b; side = Some side })) (Break b.hi)
 
 -- what follows from the evaluation fx at x
-unfoldable pub narrowed : Search → Float → Float → RootStep
-narrowed s x fx = cond (le (abs_of fx) tolerance) (Found x) (onward (replaced s x fx) (cond (lt (dec 0 1) fx) 1 2))
+unfoldable pub narrowed : Search → Float → Float → ControlFlow Float Search
+narrowed s x fx = cond (le (abs_of fx) tolerance) (Break x) (onward (replaced s x fx) (cond (lt (dec 0 1) fx) Lo Hi))
 
 -- a way to evaluate: values, and one part after another
 pub record Does (m : Type 0 → Type 0) : Type 1 where
@@ -67,9 +80,9 @@ pub record Does (m : Type 0 → Type 0) : Type 1 where
   pub bind : {A B : Type 0} → m A → (A → m B) → m B
 
 -- go on from the search, or end with the root
-abbrev pub after_step : {m : Type 0 → Type 0} → Does m → (Search → m Float) → RootStep → m Float
-after_step d k (Next s) = k s
-after_step d k (Found x) = d.pure x
+abbrev pub after_step : {m : Type 0 → Type 0} → Does m → (Search → m Float) → ControlFlow Float Search → m Float
+after_step d k (Continue s) = k s
+after_step d k (Break x) = d.pure x
 
 -- at most n evaluations
 unfoldable pub root_from : {m : Type 0 → Type 0} → Does m → (Float → m Float) → ℕ → Search → m Float

@@ -4,6 +4,8 @@
 ghost use Rattle.std.specs.Prelude.{◌≡◌};
 ghost use Rattle.search.specs.Search.{start, inside, in_bracket, halved_if, replaced, chord, next_try, onward, narrowed};
 
+use std::ops::ControlFlow;
+
 // Residual accepted by the search.
 const ROOT_TOL: f64 = 1e-12;
 
@@ -16,18 +18,19 @@ pub struct Bracket {
     pub f_hi: f64,
 }
 
-// The bracket, the next place to evaluate, and the end that was replaced last: 0 none, 1 lo, 2 hi.
+// An end of a bracket.
+#[derive(Clone, Copy, PartialEq, Eq)]
+pub enum End {
+    Lo,
+    Hi,
+}
+
+// The bracket, the next place to evaluate, and the end that was replaced last, if any.
 #[derive(Clone, Copy)]
 pub struct Search {
     pub bracket: Bracket,
     pub x: f64,
-    pub side: u8,
-}
-
-#[derive(Clone, Copy)]
-pub enum RootStep {
-    Next(Search),
-    Found(f64),
+    pub side: Option<End>,
 }
 
 // The root found, and how many evaluations were made to find it.
@@ -37,16 +40,18 @@ pub struct Root {
     pub evaluations: u64,
 }
 
+#[tactic(auto, using(number::proofs::Steps::steps), unfolding(crate::specs::Search::start))]
 pub fn start_search(b: Bracket, guess: f64) -> Search
     ensures { result ≡ start b guess }
 {
     Search {
         bracket: b,
         x: guess,
-        side: 0,
+        side: None,
     }
 }
 
+#[tactic(auto, using(number::proofs::Steps::steps), unfolding(crate::specs::Search::in_bracket))]
 pub fn in_bracket(s: Search) -> f64
     ensures { result ≡ in_bracket s }
 {
@@ -57,12 +62,14 @@ pub fn in_bracket(s: Search) -> f64
     0.5 * (b.lo + b.hi)
 }
 
+#[tactic(auto, using(number::proofs::Steps::steps), unfolding(crate::specs::Search::inside))]
 fn is_inside(b: Bracket, x: f64) -> bool
     ensures { result ≡ inside b x }
 {
     (b.lo < x) & (x < b.hi)
 }
 
+#[tactic(auto, using(number::proofs::Steps::steps), unfolding(crate::specs::Search::halved_if))]
 fn halved_if(again: bool, f: f64) -> f64
     ensures { result ≡ halved_if again f }
 {
@@ -72,6 +79,7 @@ fn halved_if(again: bool, f: f64) -> f64
     f
 }
 
+#[tactic(auto, using(number::proofs::Steps::steps), unfolding(crate::specs::Search::replaced))]
 fn replace_end(s: Search, x: f64, fx: f64) -> Bracket
     ensures { result ≡ replaced s x fx }
 {
@@ -81,17 +89,18 @@ fn replace_end(s: Search, x: f64, fx: f64) -> Bracket
             lo: x,
             f_lo: fx,
             hi: b.hi,
-            f_hi: halved_if(s.side == 1, b.f_hi),
+            f_hi: halved_if(s.side == Some(End::Lo), b.f_hi),
         };
     }
     Bracket {
         lo: b.lo,
-        f_lo: halved_if(s.side == 2, b.f_lo),
+        f_lo: halved_if(s.side == Some(End::Hi), b.f_lo),
         hi: x,
         f_hi: fx,
     }
 }
 
+#[tactic(auto, using(number::proofs::Steps::steps), unfolding(crate::specs::Search::chord))]
 fn chord_of(b: Bracket) -> f64
     ensures { result ≡ chord b }
 {
@@ -101,6 +110,7 @@ fn chord_of(b: Bracket) -> f64
     0.5 * (b.lo + b.hi)
 }
 
+#[tactic(auto, using(number::proofs::Steps::steps), unfolding(crate::specs::Search::next_try))]
 fn next_try(b: Bracket) -> f64
     ensures { result ≡ next_try b }
 {
@@ -111,30 +121,32 @@ fn next_try(b: Bracket) -> f64
     0.5 * (b.lo + b.hi)
 }
 
-fn go_on(b: Bracket, side: u8) -> RootStep
+#[tactic(auto, using(number::proofs::Steps::steps), unfolding(crate::specs::Search::onward))]
+fn go_on(b: Bracket, side: End) -> ControlFlow<f64, Search>
     ensures { result ≡ onward b side }
 {
     let mid = 0.5 * (b.lo + b.hi);
     if is_inside(b, mid) {
-        let s = Search {
+        return ControlFlow::Continue(Search {
             bracket: b,
             x: next_try(b),
-            side,
-        };
-        return RootStep::Next(s);
+            side: Some(side),
+        });
     }
-    RootStep::Found(b.hi)
+    ControlFlow::Break(b.hi)
 }
 
-pub fn narrow(s: Search, x: f64, fx: f64) -> RootStep
+// Goes on with the narrowed search, or ends with the root.
+#[tactic(auto, using(number::proofs::Steps::steps), unfolding(crate::specs::Search::narrowed))]
+pub fn narrow(s: Search, x: f64, fx: f64) -> ControlFlow<f64, Search>
     ensures { result ≡ narrowed s x fx }
 {
     if number::abs(fx) <= ROOT_TOL {
-        return RootStep::Found(x);
+        return ControlFlow::Break(x);
     }
     let b = replace_end(s, x, fx);
     if fx > 0.0 {
-        return go_on(b, 1);
+        return go_on(b, End::Lo);
     }
-    go_on(b, 2)
+    go_on(b, End::Hi)
 }

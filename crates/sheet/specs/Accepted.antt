@@ -5,7 +5,7 @@ use Rattle.std.specs.Float.{nan, inf, fin, binary64}
 use Rattle.std.specs.Float.Ieee.{of_bits, nan_bits, is_nan, le, lt, eq, neg}
 use Rattle.std.specs.Float.Ieee.Bits.{nan_bits_is}
 use Rattle.sheet.specs.Scan.{and-false}
-use Rattle.sheet.specs.Sheet.{edges_ok, surfaces, patches, field, real, header_ok, surface_ok, patch_ok, all, answer_of}
+use Rattle.sheet.specs.Sheet.{edges_ok, surfaces, patches, field, real, header_ok, surface_ok, patch_ok, all, answer_of, Accepted}
 use Rattle.number.specs.Ops.{dec}
 use Rattle.number.specs.Number.{within_of, about_of}
 
@@ -18,7 +18,7 @@ and_r true b e = e
 and_r false b e = absurd (true≢false (sym e))
 
 -- t is true where X is, if X is false where t is
-must : (t X : Bool) → (t ≡ false → X ≡ false) → X ≡ true → t ≡ true
+pub must : (t X : Bool) → (t ≡ false → X ≡ false) → X ≡ true → t ≡ true
 must true X f e = refl
 must false X f e = absurd (true≢false (sym e ∙ f refl))
 
@@ -57,6 +57,13 @@ pub accepted : (s : List ℕ) → answer_of s ≡ 0 → Header s
 unfolding answer_of
 accepted s e = header s (by_cases (header_ok s) (all (surface_ok s) (surfaces s) 0) (all (patch_ok s) (patches s) (surfaces s)) e).0
 
+-- what is held of an accepted sheet beside its bytes: the counts of its surfaces and patches
+pub record Held (s : List ℕ) (count n : ℕ) : Type 0 where
+  pub ok : Accepted s
+  pub surface_count : count ≡ surfaces s
+  pub patch_count : n ≡ patches s
+  pub header : Header s
+
 pub patch_passed : (s : List ℕ) (i : ℕ) → answer_of s ≡ 0 → surfaces s ≤ i → i < surfaces s + patches s → patch_ok s i ≡ true
 unfolding answer_of
 patch_passed s i e l h =
@@ -76,7 +83,7 @@ real_number lo hi nan e = absurd (true≢false (sym e ∙ and-false (le lo nan))
 real_number lo hi (inf s) e = tt
 real_number lo hi (fin s m d) e = tt
 
-no_nan : (lo hi : Float) (n : ℕ) → within_of lo hi (of_bits binary64 n) ≡ true → T (not (nan_bits binary64 n))
+pub no_nan : (lo hi : Float) (n : ℕ) → within_of lo hi (of_bits binary64 n) ≡ true → T (not (nan_bits binary64 n))
 no_nan lo hi n e = rw nan_bits_is (real_number lo hi (of_bits binary64 n) e)
 
 edges_of : (lo hi : ℕ) → edges_ok (of_bits binary64 lo) (of_bits binary64 hi) ≡ true → T (not (nan_bits binary64 lo)) × T (not (nan_bits binary64 hi))

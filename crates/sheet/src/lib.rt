@@ -1,8 +1,16 @@
 // The course sheet (01, "Course sheet"): its numbers, read from bytes, and the tests 1 to 3.
 #![tactic(auto)]
 
-ghost use Rattle.std.specs.Prelude.{◌≡◌, ℕ, ◌+◌, ◌*◌, ◌≤◌, ◌<◌, length};
-ghost use Rattle.sheet.specs.Sheet.{surfaces, field, real, header_ok, restitution_ok, law_ok, surface_ok, edges_ok, patch_ok, all, answer_of};
+ghost use Rattle.std.specs.Prelude.{◌≡◌, true, not, ℕ, ◌+◌, ◌*◌, ◌≤◌, ◌<◌, length, T};
+ghost use Rattle.std.specs.Float.{binary64};
+ghost use Rattle.std.specs.Float.Ieee.{nan_bits};
+ghost use Rattle.sheet.specs.Sheet.{surfaces, field, real, header_ok, restitution_ok, law_ok, surface_ok, edges_ok, patch_ok, all, answer_of, patches, Accepted, restitution_of, law_of, surface_of};
+ghost use Rattle.sheet.specs.Accepted.{Header};
+ghost use Rattle.refusal.specs.Refusal.{answer_by};
+
+use refusal::Refusal;
+use std::marker::Model;
+use surface::{Restitution, RollLaw, Surface};
 
 // Field j of record i.
 pub fn whole(s: &[u8], i: usize, j: usize) -> u64
@@ -19,8 +27,19 @@ pub fn double(s: &[u8], i: usize, j: usize) -> f64
     octets::double_at(s, 16 + 8 * (8 * i + j))
 }
 
+// A field that is known to be no NaN.
+fn number(s: &[u8], i: usize, j: usize) -> f64
+    requires field { (80 + 64 * i ≤ length s.now) × (j < 8) }
+    requires number { T (not (nan_bits binary64 (field s.now i j))) }
+    ensures { result ≡ real s.now i j }
+{
+    f64::from_bits(whole(s, i, j))
+}
+
+#[tactic(auto, unfolding(crate::specs::Sheet::header_ok))]
 fn header_ok(sheet: &[u8]) -> bool
-    ensures { result ≡ header_ok sheet.now }
+    ensures answer { result ≡ header_ok sheet.now }
+    ensures passed { result ≡ true → Header sheet.now }
 {
     if sheet.len() < 16 {
         return false;
@@ -37,29 +56,53 @@ fn header_ok(sheet: &[u8]) -> bool
         & ((sheet.len() as u64) == 16 + 64 * (s + p))
 }
 
+#[tactic(auto, unfolding(crate::specs::Sheet::restitution_ok), using(crate::specs::Consts::c0, crate::specs::Consts::c1))]
 fn restitution_ok(kind: u64, e: f64) -> bool
     ensures { result ≡ restitution_ok kind e }
 {
-    if kind == 0 {
-        number::within(0.0, 1.0, e)
-    } else {
-        kind == 1
+    match kind {
+        0 => number::within(0.0, 1.0, e),
+        1 => true,
+        _ => false,
     }
 }
 
+#[tactic(auto, unfolding(crate::specs::Sheet::law_ok), using(crate::specs::Consts::c001, crate::specs::Consts::c1000))]
 fn law_ok(law: u64, v_ref: f64) -> bool
     ensures { result ≡ law_ok law v_ref }
 {
-    if law == 0 {
-        true
-    } else if law <= 2 {
-        number::within(0.01, 1000.0, v_ref)
-    } else {
-        false
+    match law {
+        0 => true,
+        1 | 2 => number::within(0.01, 1000.0, v_ref),
+        _ => false,
+    }
+}
+
+// The restitution of a kind that passed its test.
+#[tactic(auto, unfolding(crate::specs::Sheet::restitution_of))]
+fn restitution_of(kind: u64, e: f64) -> Restitution
+    ensures { result ≡ restitution_of kind e }
+{
+    match kind {
+        0 => Restitution::Constant(e),
+        _ => Restitution::Penner2002,
+    }
+}
+
+// The roll law of a number that passed its test.
+#[tactic(auto, unfolding(crate::specs::Sheet::law_of))]
+fn law_of(law: u64, v_ref: f64) -> RollLaw
+    ensures { result ≡ law_of law v_ref }
+{
+    match law {
+        0 => RollLaw::Constant,
+        1 => RollLaw::Quadratic { v_ref },
+        _ => RollLaw::Exponential { v_ref },
     }
 }
 
 // All tests of a record are made: one branch costs less than six.
+#[tactic(auto, unfolding(crate::specs::Sheet::surface_ok), using(crate::specs::Consts::c0, crate::specs::Consts::c1, crate::specs::Consts::c10))]
 fn surface_ok(sheet: &[u8], i: usize) -> bool
     requires { 80 + 64 * i ≤ length sheet.now }
     ensures { result ≡ surface_ok sheet.now i }
@@ -72,12 +115,14 @@ fn surface_ok(sheet: &[u8], i: usize) -> bool
         & number::within(0.0, 1.0, double(sheet, i, 7))
 }
 
+#[tactic(auto, unfolding(crate::specs::Sheet::edges_ok), using(crate::specs::Consts::c100000))]
 fn edges_ok(lo: f64, hi: f64) -> bool
     ensures { result ≡ edges_ok lo hi }
 {
     number::within(-100000.0, 100000.0, lo) & number::within(-100000.0, 100000.0, hi) & (lo <= hi)
 }
 
+#[tactic(auto, unfolding(crate::specs::Sheet::patch_ok), using(crate::specs::Consts::c1000, crate::specs::Consts::c4))]
 fn patch_ok(sheet: &[u8], i: usize, count: u64) -> bool
     requires { (80 + 64 * i ≤ length sheet.now) × (count ≡ surfaces sheet.now) }
     ensures { result ≡ patch_ok sheet.now i }
@@ -94,45 +139,115 @@ fn surfaces_ok(sheet: &[u8], end: usize) -> bool
     requires { 16 + 64 * end ≤ length sheet.now }
     ensures { result ≡ all (surface_ok sheet.now) end 0 }
 {
-    let mut i = 0usize;
-    while i < end {
-        if !surface_ok(sheet, i) {
-            return false;
-        }
-        i += 1;
-    }
-    true
+    (0..end).all(|i| surface_ok(sheet, i))
 }
 
 fn patches_ok(sheet: &[u8], count: usize, n: usize) -> bool
     requires { (16 + 64 * (count + n) ≤ length sheet.now) × (count ≡ surfaces sheet.now) }
     ensures { result ≡ all (patch_ok sheet.now) n count }
 {
-    let end = count + n;
-    let mut i = count;
-    while i < end {
-        if !patch_ok(sheet, i, count as u64) {
-            return false;
-        }
-        i += 1;
-    }
-    true
+    (count..count + n).all(|i| patch_ok(sheet, i, count as u64))
 }
 
-// 0, or the number of the first test that the sheet fails.
-pub fn check_sheet(sheet: &[u8]) -> u32
-    ensures { result ≡ answer_of sheet.now }
+// Whether the sheet passes the tests 1 to 3; if not, the first that it fails.
+#[tactic(auto, unfolding(crate::specs::Sheet::answer_of))]
+pub fn check_sheet(sheet: &[u8]) -> Result<(), Refusal>
+    ensures { answer_by result ≡ answer_of sheet.now }
 {
     if !header_ok(sheet) {
-        return 1;
+        return Err(Refusal::SheetHeader);
     }
-    let s = octets::half(sheet, 0) as usize;
-    let p = octets::half(sheet, 8) as usize;
-    if !surfaces_ok(sheet, s) {
-        return 2;
+    let count = octets::half(sheet, 0) as usize;
+    let n = octets::half(sheet, 8) as usize;
+    if !surfaces_ok(sheet, count) {
+        return Err(Refusal::SheetSurface);
     }
-    if !patches_ok(sheet, s, p) {
-        return 3;
+    if !patches_ok(sheet, count, n) {
+        return Err(Refusal::SheetPatch);
     }
-    0
+    Ok(())
+}
+
+// An accepted sheet. Contracts see its bytes.
+#[derive(Drop)]
+pub struct Sheet<'a> {
+    bytes: &'a [u8],
+    surface_count: usize,
+    patch_count: usize,
+}
+
+impl<'a> Model for Sheet<'a> {
+    ghost use Rattle.std.specs.Prelude.{ℕ, List};
+    ghost use Rattle.sheet.specs.Accepted.{Held};
+
+    ghost Value = { List ℕ };
+
+    ghost view = { λ a. a.bytes.now };
+
+    ghost invariant = { λ a. Held a.bytes.now a.surface_count a.patch_count };
+}
+
+impl<'a> Sheet<'a> {
+    pub fn accepted(bytes: &'a [u8]) -> Self
+        requires { Accepted bytes.now }
+        ensures { result ≡ bytes.now }
+    {
+        Sheet {
+            bytes,
+            surface_count: octets::half(bytes, 0) as usize,
+            patch_count: octets::half(bytes, 8) as usize,
+        }
+    }
+
+    // How many surfaces there are.
+    pub fn surfaces(&self) -> usize
+        ensures count { result ≡ surfaces self.now }
+        ensures accepted { Accepted self.now }
+        ensures few { (1 ≤ result) × (result ≤ 16) }
+    {
+        self.surface_count
+    }
+
+    // How many patches there are: they are the records from `surfaces` on.
+    pub fn patches(&self) -> usize
+        ensures count { result ≡ patches self.now }
+        ensures accepted { Accepted self.now }
+        ensures few { result ≤ 512 }
+    {
+        self.patch_count
+    }
+
+    // A number of the patch that is record i: an edge, the height or a slope.
+    pub fn patch_number(&self, i: usize, j: usize) -> f64
+        requires patch { (surfaces self.now ≤ i) × (i < surfaces self.now + patches self.now) }
+        requires number { j < 7 }
+        ensures { result ≡ real self.now i j }
+    {
+        number(self.bytes, i, j)
+    }
+
+    // The number of the surface of the patch that is record i.
+    pub fn patch_surface(&self, i: usize) -> usize
+        requires patch { (surfaces self.now ≤ i) × (i < surfaces self.now + patches self.now) }
+        ensures number { result ≡ field self.now i 7 }
+        ensures below { result < surfaces self.now }
+    {
+        whole(self.bytes, i, 7) as usize
+    }
+
+    // Surface i, as held in memory.
+    #[tactic(auto, unfolding(crate::specs::Sheet::surface_of))]
+    pub fn surface(&self, i: usize) -> Surface
+        requires { i < surfaces self.now }
+        ensures { result ≡ surface_of self.now i }
+    {
+        Surface {
+            restitution: restitution_of(whole(self.bytes, i, 0), double(self.bytes, i, 1)),
+            mu_slide: number(self.bytes, i, 2),
+            mu_roll: number(self.bytes, i, 3),
+            roll_law: law_of(whole(self.bytes, i, 4), double(self.bytes, i, 5)),
+            compliance: number(self.bytes, i, 6),
+            pivot: number(self.bytes, i, 7),
+        }
+    }
 }

@@ -8,7 +8,7 @@ use Rattle.std.proofs.lemmas.Bool.{lt-leb}
 use Rattle.state.specs.State.{state_ok}
 use Rattle.state.specs.declared.BallState.{BallState}
 use Rattle.shelf.specs.declared.Shelf.{Shelf}
-use Rattle.shelf.specs.declared.Returned.{Returned}
+use Rattle.shelf.specs.Answers.{Returned}
 use Rattle.shelf.specs.Map.{name_ok, Map, empty_map, update, Call, Out, out, told, done, with, keep, give, lose, call, map_after}
 use Rattle.shelf.specs.Shelf.{empty_shelf, returned, save_of, return_of, drop_of}
 use Rattle.shelf.proofs.Places.{Decided, decide, same_self, used_most}

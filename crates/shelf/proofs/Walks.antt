@@ -1,94 +1,51 @@
 -- Laws of walks along lists, at index i, and of the first place that holds a name. Assumes nothing.
 use Prim.Native.Nat.{ℕ, zero, suc, ◌+◌, ◌-◌, ◌≤◌, ◌<◌}
-use native.Mathlib.Nat.{add-zero, zero-add, sub-zero, zero-sub}
-use native.Mathlib.Numerals.{add-one}
+use native.Mathlib.Nat.{sub-zero, zero-sub}
 use native.Mathlib.Omega.{arith}
 use mathlib.Core.Path.{◌≡◌, refl, ap, ◌∙◌, sym, subst}
-use mathlib.Core.Bool.{Bool, true, false, not, ◌&&◌, ◌||◌, cond}
-use mathlib.Core.List.{List, [], ◌∷◌}
+use mathlib.Core.Bool.{and_assoc, Bool, true, false, ◌&&◌, ◌||◌, cond}
+use mathlib.Core.List.{List, [], ◌∷◌, ◌++◌}
 use mathlib.Core.Option.{Option, none, some}
 use lib.Dec.{T, T_not, leb, eqb, ltb, leb-zero, leb-suc-suc}
-use lib.ListN.{length, drop, get_or, set, replicate, drop_of_length-le, length-drop}
-use lib.Seq.{drop-cons}
-use borrow.Author.Tests.{leb-true, ltb-true, ltb-false, lt-ltb, le-ltb, eq-eqb, ne_eqb}
+use lib.ListN.{length, take, drop, get_or, set, replicate, length-drop}
+use lib.Seq.{drop-drop, take_all}
+use lib.Pointwise.{pointwise}
+use Rattle.std.specs.List.{position_or_len}
+use Rattle.std.specs.Prelude.{position, Some, None}
+use Rattle.std.proofs.lemmas.List.Recursion.{is_position_or_len}
+use borrow.Author.Tests.{leb-true, ltb-true, ltb-false, lt-ltb, le-ltb}
 use Rattle.state.specs.declared.BallState.{BallState}
 use Rattle.shelf.specs.declared.Place.{Place}
-use Rattle.shelf.specs.Map.{is_letter, letters, name_ok, same}
-use Rattle.shelf.specs.Shelf.{has, find, put, place_in, padded, sound_name, sound_place, sound, Found}
+use Rattle.shelf.specs.Map.{letters, name_ok, same}
+use Rattle.shelf.specs.Shelf.{has, find, packed, put, place_in, padded, sound_name, sound_place, sound}
 
 -- ---- bytes
-module _ (l : List ℕ) (i : ℕ) where
-  module _ (left : letters (drop i l) ≡ letters l) where
-    pub no_letter : i < length l → is_letter (get_or l i 0) ≡ false → false ≡ letters l
-    unfolding letters
-    no_letter h e = rw (drop-cons l i 0 h, e) at left
-
-    pub letter : i < length l → is_letter (get_or l i 0) ≡ true → letters (drop (i + 1) l) ≡ letters l
-    unfolding letters
-    letter h e = rw add-one (rw (drop-cons l i 0 h, e) at left)
-
-    pub letters_end : length l ≤ i → true ≡ letters l
-    unfolding letters
-    letters_end h = rw (drop_of_length-le l {i = i} h) at left
-
-  module _ (m : List ℕ) (left : same (drop i l) (drop i m) ≡ same l m) where
-    pub differ : i < length l → i < length m → eqb (get_or l i 0) (get_or m i 0) ≡ false → false ≡ same l m
-    unfolding same
-    differ h k e = rw (drop-cons l i 0 h, drop-cons m i 0 k, e) at left
-
-    pub equal : i < length l → i < length m → eqb (get_or l i 0) (get_or m i 0) ≡ true → same (drop (i + 1) l) (drop (i + 1) m) ≡ same l m
-    unfolding same
-    equal h k e = rw add-one (rw (drop-cons l i 0 h, drop-cons m i 0 k, e) at left)
-
-    pub equal_end : length l ≤ i → length m ≤ i → true ≡ same l m
-    unfolding same
-    equal_end h k = rw (drop_of_length-le l {i = i} h, drop_of_length-le m {i = i} k) at left
-
--- byte i of the 12 after the length, which is n
-module _ (l : List ℕ) (i n : ℕ) (t : Bool) (left : padded (n - i) (drop (1 + i) l) ≡ t) (h : 1 + i < length l) where
-  pub fit : (b : Bool) → cond (ltb i n) (is_letter (get_or l (1 + i) 0)) (eqb (get_or l (1 + i) 0) 0) ≡ b → b && padded (n - (i + 1)) (drop (1 + (i + 1)) l) ≡ t
-  unfolding padded
-  fit b = go (ltb i n) refl
-    where
-      next : 1 + (i + 1) ≡ suc (1 + i)
-      next = omega arith
-
-      go : (w : Bool) → ltb i n ≡ w → cond w (is_letter (get_or l (1 + i) 0)) (eqb (get_or l (1 + i) 0) 0) ≡ b → b && padded (n - (i + 1)) (drop (1 + (i + 1)) l) ≡ t
-      go true k e =
-          let k' = ltb-true i n k in
-          let m : n - i ≡ suc (n - (i + 1)) = omega arith in
-          rw next (rw (m, drop-cons l (1 + i) 0 h, e) at left)
-      go false k e =
-          let k' = ltb-false i n k in
-          let m : n - i ≡ 0 = omega arith in
-          let m' : n - (i + 1) ≡ 0 = omega arith in
-          rw (next, m') (rw (m, drop-cons l (1 + i) 0 h, e) at left)
-
-  pub unfit : cond (ltb i n) (is_letter (get_or l (1 + i) 0)) (eqb (get_or l (1 + i) 0) 0) ≡ false → false ≡ t
-  unfit e = fit false e
-
 pub opened : (l : List ℕ) → 0 < length l → sound_name l ≡ leb (get_or l 0 0) 12 && padded (get_or l 0 0) (drop 1 l)
 unfolding sound_name
 opened [] h = absurd (omega arith)
 opened (n ∷ l) h = refl
 
-pub padded_end : (l : List ℕ) (i m : ℕ) (t : Bool) → padded m (drop i l) ≡ t → length l ≤ i → true ≡ t
-unfolding padded
-padded_end l i m t left h = rw (drop_of_length-le l {i = i} h) at left
+pub padded_parts : (n : ℕ) (l : List ℕ) → padded n l ≡ letters (take n l) && padded 0 (drop n l)
+unfolding padded letters
+padded_parts zero l = refl
+padded_parts (suc n) [] = refl
+padded_parts (suc n) (b ∷ l) = rw (padded_parts n l, and_assoc)
 
--- ---- places
-module _ (k : List ℕ) (l : List Place) (i n : ℕ) (d : Place) (left : i + place_in k (drop i l) ≡ n) where
-  pub here : i < length l → same (get_or l i d).name k ≡ true → i ≡ n
-  unfolding place_in
-  here h e = sym (add-zero i) ∙ (rw (drop-cons l i d h, place_in, e) at left)
+pub parts_of : (l : List ℕ) (n : ℕ) → length l ≡ 13 → n ≤ 12
+    → letters (take (n + 1 - 1) (drop 1 l)) && padded 0 (take (13 - (n + 1)) (drop (n + 1) l)) ≡ padded n (drop 1 l)
+parts_of l n h k =
+    let e : n + 1 - 1 ≡ n = omega arith in
+    let j : n + 1 ≡ 1 + n = omega arith in
+    let f : take (13 - (n + 1)) (drop (n + 1) l) ≡ drop n (drop 1 l) =
+    take_all (13 - (n + 1)) (drop (n + 1) l) (rw length-drop (omega arith)) ∙ ap (λ (i : ℕ). drop i l) j ∙ sym (drop-drop n 1 l) in
+    rw (e, f) (sym (padded_parts n (drop 1 l)))
 
-  pub further : i < length l → same (get_or l i d).name k ≡ false → i + 1 + place_in k (drop (i + 1) l) ≡ n
-  unfolding place_in
-  further h e = let f : i + suc (place_in k (drop (suc i) l)) ≡ n = rw (drop-cons l i d h, place_in, e) at left in rw add-one (omega arith)
-
-  pub nowhere : length l ≤ i → i ≡ n
-  unfolding place_in
-  nowhere h = sym (add-zero i) ∙ (rw (drop_of_length-le l {i = i} h) at left)
+pub same_is : (a b : List ℕ) → pointwise eqb a b ≡ same a b
+unfolding same
+same_is [] [] = refl
+same_is [] (b ∷ n) = refl
+same_is (a ∷ m) [] = refl
+same_is (a ∷ m) (b ∷ n) = ap (λ (t : Bool). eqb a b && t) (same_is m n)
 
 -- ---- the place found by its number
 pub placed : (k : List ℕ) (l : List Place) → ltb (place_in k l) (length l) ≡ has k l
@@ -136,65 +93,76 @@ drop_replicate zero n b = ap (λ (m : ℕ). replicate m b) (sym (sub-zero n))
 drop_replicate (suc i) zero b = ap (λ (m : ℕ). replicate m b) (sym (zero-sub (suc i)))
 drop_replicate (suc i) (suc n) b = drop_replicate i n b ∙ ap (λ (m : ℕ). replicate m b) (let e : n - i ≡ suc n - suc i = omega arith in e)
 
-pub place_le : (k : List ℕ) (l : List Place) → place_in k l ≤ length l
+pub whole : (n : List ℕ) {m : List ℕ} → m ≡ n → length n ∷ (m ++ drop (length n + 1 - 1) (replicate 12 0)) ≡ packed n
+unfolding packed
+whole n e = let k : length n + 1 - 1 ≡ length n = omega arith in rw (e, k, drop_replicate (length n) 12 0)
+
+-- ---- what `find` found
+place_step : (k : List ℕ) (p : Place) (l : List Place) → place_in k (p ∷ l) ≡ cond (same p.name k) 0 (1 + place_in k l)
 unfolding place_in
-place_le k [] = omega arith
-place_le k (p ∷ l) = go (same p.name k) (place_le k l)
+place_step k p l = go (same p.name k)
   where
-    go : (b : Bool) → place_in k l ≤ length l → elim b [ true ↦ 0 | false ↦ suc (place_in k l) ] ≤ suc (length l)
-    go true h = omega arith
-    go false h = omega arith
+    go : (b : Bool) → elim b [ true ↦ 0 | false ↦ suc (place_in k l) ] ≡ cond b 0 (1 + place_in k l)
+    go true = refl
+    go false = omega arith
 
--- ---- what `find_from` found from the start on
-module _ {k : List ℕ} {l : List Place} {i : ℕ} (f : Found k l 0 i) where
-  at : i ≡ place_in k l
-  at = f.same ∙ zero-add (place_in k l)
+place_is : (k : List ℕ) (l : List Place) → place_in k l ≡ position_or_len (λ (p : Place). same p.name k) l
+unfolding place_in
+place_is k l = is_position_or_len (place_in k) (λ p. same p.name k) refl (place_step k) l
 
-  pub is_there : i < 16 → has k l ≡ true
-  is_there h = let n = f.size in sym (placed k l) ∙ lt-ltb (place_in k l) (length l) (omega arith)
+module _ (k : List ℕ) (l : List Place) where
+  which : position (λ (p : Place). same p.name k) l ≡ cond (ltb (place_in k l) (length l)) (Some (place_in k l)) None
+  which = rw (place_is k l)
 
-  pub is_not : 16 ≤ i → has k l ≡ false
-  is_not h = let n = f.size in sym (placed k l) ∙ le-ltb (place_in k l) (length l) (omega arith)
+  module _ {i : ℕ} (f : position (λ (p : Place). same p.name k) l ≡ Some i) where
+    at : (i ≡ place_in k l) × (place_in k l < length l)
+    at = go (ltb (place_in k l) (length l)) refl (sym which ∙ f)
+      where
+        go : (b : Bool) → ltb (place_in k l) (length l) ≡ b → cond b (Some (place_in k l)) None ≡ Some i → (i ≡ place_in k l) × (place_in k l < length l)
+        go true e g = let h : i ≡ place_in k l = cc in (h, ltb-true _ _ e)
+        go false e g = absurd (cc)
 
-  pub there : (d : Place) → i < 16 → find k l ≡ some (get_or l i d).state
-  there d h = let n = f.size in rw at (found k l d (omega arith))
+    pub is_there : has k l ≡ true
+    is_there = sym (placed k l) ∙ lt-ltb (place_in k l) (length l) at.1
 
-  pub not_there : 16 ≤ i → find k l ≡ none
-  not_there h = let n = f.size in missing k l (omega arith)
+    pub there : (d : Place) → find k l ≡ some (get_or l i d).state
+    there d = rw at.0 (found k l d at.1)
 
-  pub put_there : (q : Place) → set l i q ≡ put k q l
-  put_there q = rw at (puts k q l)
+    pub put_there : (q : Place) → set l i q ≡ put k q l
+    put_there q = rw at.0 (puts k q l)
 
--- ---- and from an index on
-pub later : {k : List ℕ} {l : List Place} {from r : ℕ} → from ≤ 16 → Found k l from r → eqb r 16 ≡ not (has k (drop from l))
-later {k} {l} {from} {r} h f = go (has k (drop from l)) (placed k (drop from l))
-  where
-    long : length (drop from l) ≡ 16 - from
-    long = rw (length-drop from l, f.size)
+  module _ (f : position (λ (p : Place). same p.name k) l ≡ None) where
+    past : length l ≤ place_in k l
+    past = go (ltb (place_in k l) (length l)) refl (sym which ∙ f)
+      where
+        go : (b : Bool) → ltb (place_in k l) (length l) ≡ b → cond b (Some (place_in k l)) None ≡ None → length l ≤ place_in k l
+        go true e g = absurd (cc)
+        go false e g = ltb-false _ _ e
 
-    go : (b : Bool) → ltb (place_in k (drop from l)) (length (drop from l)) ≡ b → eqb r 16 ≡ not b
-    go true t =
-        let e = f.same in
-        let j : place_in k (drop from l) < length (drop from l) = ltb-true _ _ t in
-        ne_eqb r 16 (λ q. omega (arith, long))
-    go false t =
-        let e = f.same in
-        let j : length (drop from l) ≤ place_in k (drop from l) = ltb-false _ _ t in
-        eq-eqb r 16 (omega (arith, long, place_le k (drop from l)))
+    pub is_not : has k l ≡ false
+    is_not = sym (placed k l) ∙ le-ltb (place_in k l) (length l) past
+
+    pub not_there : find k l ≡ none
+    not_there = missing k l past
 
 -- ---- a walk along the places that tests each
-module _ (l : List Place) (i : ℕ) (d : Place) (left : sound (drop i l) ≡ sound l) where
-  pub sound_on : i < length l → sound_place (get_or l i d) (drop (i + 1) l) ≡ true → sound (drop (i + 1) l) ≡ sound l
-  unfolding sound
-  sound_on h = rw add-one (λ e. rw (drop-cons l i d h, e) at left)
+module _ (l m : List Place) (left : sound m ≡ sound l) where
+  module _ {p : Place} {q : List Place} (e : m ≡ p ∷ q) where
+    pub stops : sound_place p q ≡ false → false ≡ sound l
+    unfolding sound
+    stops f = rw (e, f) at left
 
-  pub not_sound : i < length l → sound_place (get_or l i d) (drop (i + 1) l) ≡ false → false ≡ sound l
-  unfolding sound
-  not_sound h = rw add-one (λ e. rw (drop-cons l i d h, e) at left)
+    pub goes : sound_place p q ≡ true → sound q ≡ sound l
+    unfolding sound
+    goes f = rw (e, f) at left
 
-  pub sound_end : length l ≤ i → true ≡ sound l
+  pub all : length m ≡ 0 → true ≡ sound l
   unfolding sound
-  sound_end h = rw (drop_of_length-le l {i = i} h) at left
+  all h = go m left h
+    where
+      go : (m : List Place) → sound m ≡ sound l → length m ≡ 0 → true ≡ sound l
+      go [] k h = k
+      go (p ∷ q) k h = absurd (omega arith)
 
 -- a name that passes its test has at most 12 bytes
 pub name_short : (n : List ℕ) → name_ok n ≡ true → length n ≤ 12

@@ -1,12 +1,13 @@
 -- Definitions. The shelf: 16 places, and what each of its functions gives.
-use Rattle.std.specs.Prelude.{ℕ, zero, suc, ◌+◌, ◌-◌, ◌≡◌, Bool, true, false, not, ◌&&◌, ◌||◌, cond, List, [], ◌∷◌, ◌++◌, leb, eqb, length, drop, replicate}
+use Rattle.std.specs.Prelude.{ℕ, zero, suc, ◌-◌, Bool, true, false, not, ◌&&◌, ◌||◌, cond, List, [], ◌∷◌, ◌++◌, leb, eqb, length, replicate, Result, Ok, Err}
 use Rattle.std.proofs.Math.Option.{Option, none, some}
 use Rattle.state.specs.State.{state_ok}
 use Rattle.state.specs.declared.BallState.{BallState}
 use Rattle.shelf.specs.declared.Place.{Place}
 use Rattle.shelf.specs.declared.Shelf.{Shelf}
-use Rattle.shelf.specs.declared.Saved.{Saved}
-use Rattle.shelf.specs.declared.Returned.{Returned}
+use Rattle.refusal.specs.declared.Refusal.{Refusal}
+use Rattle.refusal.specs.Refusal.{number_of}
+use Rattle.shelf.specs.Answers.{Saved, Returned}
 use Rattle.shelf.specs.Map.{is_letter, name_ok, same, zero_state}
 
 -- a name as a place holds it: its length, then 12 bytes, those past its length 0
@@ -67,6 +68,11 @@ unfoldable pub given : Option BallState → Returned
 given (some b) = returned 0 b
 given none = returned 34 zero_state
 
+-- what `Shelf::return_to` returns, so given: where there is no state, one of zeros
+abbrev pub returned_by : Result BallState Refusal → Returned
+returned_by (Ok b) = returned 0 b
+returned_by (Err r) = returned (number_of r) zero_state
+
 -- `Shelf::return_to`
 unfoldable pub return_of : Shelf → List ℕ → Returned
 return_of s n = cond (name_ok n) (given (find (packed n) s.places)) (returned 32 zero_state)
@@ -102,8 +108,3 @@ sound (p ∷ l) = sound_place p l && sound l
 unfoldable pub place_in : List ℕ → List Place → ℕ
 place_in k [] = 0
 place_in k (p ∷ l) = elim (same p.name k) [ true ↦ 0 | false ↦ suc (place_in k l) ]
-
--- r is the first place from `from` on that holds k
-pub record Found (k : List ℕ) (l : List Place) (from r : ℕ) : Type 0 where
-  pub same : r ≡ from + place_in k (drop from l)
-  pub size : length l ≡ 16

@@ -1,14 +1,20 @@
 // The shelf: up to 16 states of a ball, kept under names.
 #![tactic(auto)]
 
-ghost use Rattle.std.specs.Prelude.{◌≡◌, ◌≤◌, eqb, length, drop, cond};
+ghost use Rattle.std.specs.Prelude.{◌≡◌, ◌≤◌, length, position};
+ghost use Rattle.refusal.specs.Refusal.{number_of, answer_by};
 ghost use Rattle.shelf.specs.Map.{is_letter, letters, name_ok, same, zero_state};
-ghost use Rattle.shelf.specs.Shelf.{packed, empty_place, empty_shelf, find, replaced, kept, given, save_of, return_of, drop_of, sound_name, sound_place, sound, Found};
+ghost use Rattle.shelf.specs.Shelf.{packed, empty_place, empty_shelf, has, saved, replaced, kept, save_of, returned_by, return_of, drop_of, padded, sound_name, sound_place, sound};
 
+use refusal::Refusal;
 use state::BallState;
 use vector::DVec3;
 
-// A place: a name's length and its 12 bytes, those past its length 0, and the state kept under it. A length of 0 is a free place.
+// The name of a free place.
+const FREE: [u8; 13] = [0; 13];
+
+// A place: a name's length and its 12 bytes, those past its length 0, and the state kept under it. A length of 0 is a free place. Arrays, since the
+// exported functions have no heap.
 #[derive(Clone, Copy)]
 pub struct Place {
     pub name: [u8; 13],
@@ -20,43 +26,31 @@ pub struct Shelf {
     pub places: [Place; 16],
 }
 
-#[derive(Clone, Copy)]
-pub struct Saved {
-    pub answer: u32,
-    pub shelf: Shelf,
-}
-
-#[derive(Clone, Copy)]
-pub struct Returned {
-    pub answer: u32,
-    pub state: BallState,
-}
-
+#[tactic(auto, unfolding(crate::specs::Map::is_letter))]
 fn is_letter(b: u8) -> bool
     ensures { result ≡ is_letter b }
 {
-    (65 <= b) & (b <= 90)
+    b.is_ascii_uppercase()
 }
 
-fn all_letters(name: &[u8]) -> bool
-    ensures { result ≡ letters name.now }
+fn all_letters(bytes: &[u8]) -> bool
+    ensures { result ≡ letters bytes.now }
 {
-    let mut i = 0;
-    while i < name.len() {
-        if !is_letter(name[i]) {
-            return false;
-        }
-        i += 1;
-    }
-    true
+    bytes.iter().all(|b| is_letter(*b))
+}
+
+fn all_zero(bytes: &[u8]) -> bool
+    ensures { result ≡ padded 0 bytes.now }
+{
+    bytes.iter().all(|b| *b == 0)
 }
 
 // 1 to 12 bytes, each A to Z.
+#[tactic(auto, unfolding(crate::specs::Map::name_ok))]
 fn name_ok(name: &[u8]) -> bool
     ensures { result ≡ name_ok name.now }
 {
-    let ok = all_letters(name);
-    (1 <= name.len()) & (name.len() <= 12) & ok
+    (1 <= name.len()) & (name.len() <= 12) & all_letters(name)
 }
 
 // The name as a place holds it.
@@ -66,42 +60,21 @@ fn pack(name: &[u8]) -> [u8; 13]
 {
     let mut out = [0u8; 13];
     out[0] = name.len() as u8;
-    let mut i = 0;
-    while i < name.len() {
-        out[1 + i] = name[i];
-        i += 1;
-    }
+    out[1..name.len() + 1].copy_from_slice(name);
     out
 }
 
-fn is_same(a: [u8; 13], b: [u8; 13]) -> bool
-    ensures { result ≡ same a b }
+fn has_name(p: &Place, name: &[u8; 13]) -> bool
+    ensures { result ≡ same p.now.name name.now }
 {
-    let mut i = 0;
-    while i < 13 {
-        if a[i] != b[i] {
-            return false;
-        }
-        i += 1;
-    }
-    true
+    p.name == *name
 }
 
-// The first place from `from` on that holds the name, or 16.
-fn find_from(places: [Place; 16], from: usize, name: [u8; 13]) -> usize
-    requires { from ≤ 16 }
-    ensures { Found name places from result }
+// Whether one of the places holds the name.
+fn has(places: &[Place], name: &[u8; 13]) -> bool
+    ensures { result ≡ has name.now places.now }
 {
-    let mut i = from;
-    while i < 16 {
-        let p = places[i];
-        let n = p.name;
-        if is_same(n, name) {
-            return i;
-        }
-        i += 1;
-    }
-    i
+    places.iter().any(|p| has_name(p, name))
 }
 
 fn zero_state() -> BallState
@@ -119,176 +92,123 @@ fn empty_place() -> Place
     ensures { result ≡ empty_place }
 {
     Place {
-        name: [0; 13],
+        name: FREE,
         state: zero_state(),
     }
 }
 
-// Whether a byte is a letter, or past the name's length 0.
-fn byte_fits(within: bool, b: u8) -> bool
-    ensures { result ≡ cond within (is_letter b) (eqb b 0) }
-{
-    if within { is_letter(b) } else { b == 0 }
-}
-
 // A length of at most 12, that many letters, and then 0.
-fn name_sound(name: [u8; 13]) -> bool
-    ensures { result ≡ sound_name name }
+fn name_sound(name: &[u8; 13]) -> bool
+    ensures { result ≡ sound_name name.now }
 {
-    let n = name[0];
+    let n = name[0] as usize;
     if n > 12 {
         return false;
     }
-    let mut i = 0u8;
-    while i < 12 {
-        if !byte_fits(i < n, name[1 + i as usize]) {
-            return false;
-        }
-        i += 1;
-    }
-    true
+    all_letters(&name[1..n + 1]) & all_zero(&name[n + 1..])
 }
 
-// Whether a place, with those from `from` on after it, is one that the shelf's functions leave.
-fn place_sound(places: [Place; 16], from: usize, p: Place) -> bool
-    requires { from ≤ 16 }
-    ensures { result ≡ sound_place p (drop from places) }
+// Whether a place, with those after it, is one that the shelf's functions leave.
+#[tactic(auto, unfolding(crate::specs::Shelf::sound_place))]
+fn place_sound(p: &Place, later: &[Place]) -> bool
+    ensures { result ≡ sound_place p.now later.now }
 {
-    let name = p.name;
-    let state = p.state;
-    if !name_sound(name) {
+    if !name_sound(&p.name) {
         return false;
     }
-    if is_same(name, [0; 13]) {
-        return true;
-    }
-    if !state::state_ok(state) {
-        return false;
-    }
-    find_from(places, from, name) == 16
-}
-
-fn all_sound(places: [Place; 16]) -> bool
-    ensures { result ≡ sound places }
-{
-    let mut i = 0;
-    while i < 16 {
-        if !place_sound(places, i + 1, places[i]) {
-            return false;
-        }
-        i += 1;
-    }
-    true
+    has_name(p, &FREE) || (state::state_ok(p.state) && !has(later, &p.name))
 }
 
 impl Shelf {
     pub fn new() -> Shelf
         ensures { result ≡ empty_shelf }
     {
-        let p = empty_place();
-        Shelf { places: [p; 16] }
+        Shelf {
+            places: [empty_place(); 16],
+        }
     }
 
-    // q in the first place that holds the name; where there is none, that number.
-    fn replace(self, name: [u8; 13], q: Place, number: u32) -> Saved
-        ensures { result ≡ replaced self name q number }
+    // The first place that holds the name.
+    fn find(&self, name: &[u8; 13]) -> Option<usize>
+        ensures { result ≡ position (λ p. same p.name name.now) self.now.places }
     {
-        let mut places = self.places;
-        let at = find_from(places, 0, name);
-        if at < 16 {
-            places[at] = q;
-            return Saved {
-                answer: 0,
-                shelf: Shelf { places },
-            };
-        }
-        Saved {
-            answer: number,
-            shelf: self,
+        self.places.iter().position(|p| has_name(p, name))
+    }
+
+    // q in the first place that holds the name; where there is none, the refusal.
+    fn replace(&mut self, name: &[u8; 13], q: Place, none: Refusal) -> Result<(), Refusal>
+        ensures { saved (answer_by result) self.new ≡ replaced self.old name.now q (number_of none) }
+    {
+        match self.find(name) {
+            Some(at) => {
+                self.places[at] = q;
+                Ok(())
+            }
+            None => Err(none),
         }
     }
 
     // The state into the name's place, else into the first free one.
-    fn keep(self, name: [u8; 13], state: BallState) -> Saved
-        ensures { result ≡ kept self name state }
+    fn keep(&mut self, name: [u8; 13], state: BallState) -> Result<(), Refusal>
+        ensures { saved (answer_by result) self.new ≡ kept self.old name state }
     {
-        let places = self.places;
-        let p = Place { name, state };
-        if find_from(places, 0, name) < 16 {
-            return self.replace(name, p, 33);
+        let place = Place { name, state };
+        if has(&self.places, &name) {
+            return self.replace(&name, place, Refusal::ShelfFull);
         }
-        self.replace([0; 13], p, 33)
+        self.replace(&FREE, place, Refusal::ShelfFull)
     }
 
-    // The state under that name: 32 for a bad name, 22 for a state that fails its test, 33 for a new name with 16 kept.
-    pub fn save(self, name: &[u8], state: BallState) -> Saved
-        ensures { result ≡ save_of self name.now state }
+    // The state under that name; where it is refused, the shelf is unchanged.
+    #[tactic(auto, unfolding(crate::specs::Shelf::save_of))]
+    pub fn save(&mut self, name: &[u8], state: &BallState) -> Result<(), Refusal>
+        ensures { saved (answer_by result) self.new ≡ save_of self.old name.now state.now }
     {
         if !name_ok(name) {
-            return Saved {
-                answer: 32,
-                shelf: self,
-            };
+            return Err(Refusal::Name);
         }
-        if !state::state_ok(state) {
-            return Saved {
-                answer: 22,
-                shelf: self,
-            };
+        if !state::state_ok(*state) {
+            return Err(Refusal::OutOfRange);
         }
-        let key = pack(name);
-        self.keep(key, state)
+        self.keep(pack(name), *state)
     }
 
-    fn look_up(self, name: [u8; 13]) -> Returned
-        ensures { result ≡ given (find name self.places) }
-    {
-        let places = self.places;
-        let at = find_from(places, 0, name);
-        if at < 16 {
-            let p = places[at];
-            let state = p.state;
-            return Returned { answer: 0, state };
-        }
-        Returned {
-            answer: 34,
-            state: zero_state(),
-        }
-    }
-
-    // The state last saved under that name and not dropped since: 32 for a bad name, 34 for one that is not kept, both with a state of zeros.
-    pub fn return_to(self, name: &[u8]) -> Returned
-        ensures { result ≡ return_of self name.now }
+    // The state last saved under that name and not dropped since.
+    #[tactic(auto, unfolding(crate::specs::Shelf::return_of))]
+    pub fn return_to(&self, name: &[u8]) -> Result<BallState, Refusal>
+        ensures { returned_by result ≡ return_of self.now name.now }
     {
         if !name_ok(name) {
-            return Returned {
-                answer: 32,
-                state: zero_state(),
-            };
+            return Err(Refusal::Name);
         }
-        let key = pack(name);
-        self.look_up(key)
+        match self.find(&pack(name)) {
+            Some(at) => Ok(self.places[at].state),
+            None => Err(Refusal::NotKept),
+        }
     }
 
-    // The name no more: 32 for a bad name, 34 for one that is not kept.
-    pub fn drop(self, name: &[u8]) -> Saved
-        ensures { result ≡ drop_of self name.now }
+    // The name no more; where it is refused, the shelf is unchanged.
+    #[tactic(auto, unfolding(crate::specs::Shelf::drop_of))]
+    pub fn drop(&mut self, name: &[u8]) -> Result<(), Refusal>
+        ensures { saved (answer_by result) self.new ≡ drop_of self.old name.now }
     {
         if !name_ok(name) {
-            return Saved {
-                answer: 32,
-                shelf: self,
-            };
+            return Err(Refusal::Name);
         }
-        let key = pack(name);
-        self.replace(key, empty_place(), 34)
+        self.replace(&pack(name), empty_place(), Refusal::NotKept)
     }
 
     // Whether the places are such as these functions leave.
-    pub fn is_sound(self) -> bool
-        ensures { result ≡ sound self.places }
+    pub fn is_sound(&self) -> bool
+        ensures { result ≡ sound self.now.places }
     {
-        let places = self.places;
-        all_sound(places)
+        let mut rest = &self.places[..];
+        'places: while let Some((p, later)) = rest.split_first() {
+            if !place_sound(p, later) {
+                return false;
+            }
+            rest = later;
+        }
+        true
     }
 }

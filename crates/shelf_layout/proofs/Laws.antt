@@ -3,16 +3,27 @@ use Prim.Native.Nat.{ℕ, suc, ◌+◌, ◌-◌, ◌*◌, ◌≤◌, ◌<◌}
 use native.Mathlib.Omega.{arith}
 use native.Mathlib.Nat.{add_assoc}
 use native.Mathlib.Numerals.{add-one}
-use mathlib.Core.Path.{◌≡◌, ap, ◌∙◌, sym}
-use mathlib.Core.Bool.{Bool, true, ◌&&◌}
+use mathlib.Core.Path.{◌≡◌, refl, ap, ◌∙◌, sym}
+use mathlib.Core.Bool.{Bool, true, false, cond, ◌&&◌}
+use Rattle.std.specs.Prelude.{Result, Ok, Err}
+use Rattle.refusal.specs.declared.Refusal.TheVariants.{NotHeld}
+use Rattle.state.specs.declared.BallState.{BallState}
 use mathlib.Core.List.{List, [], ◌∷◌, ◌++◌, map, append_assoc, append-nil}
 use lib.Ieee.{Float, nan}
 use lib.ListN.{length, take, drop, get_or, set, length-append, drop_of_length-le}
 use lib.Seq.{drop-cons, drop-drop, take-suc-set, take_all, append_snoc, get_or-drop}
-use Rattle.fields.specs.Fields.{whole_of, is_whole, vec_at, state_at, state_fields, written}
+use Rattle.fields.specs.Fields.{whole_of, vec_at, state_at, state_fields, written}
 use Rattle.fields.proofs.Written.{take_written, length_written, written_on}
+use borrow.Author.Tests.{eq-eqb, ne_eqb}
+use Rattle.refusal.specs.declared.Refusal.{Refusal}
+use Rattle.refusal.specs.Refusal.{number_of}
+use Rattle.refusal.proofs.Numbers.{never_0}
 use Rattle.shelf.specs.declared.Place.{Place}
-use Rattle.shelf_layout.specs.Layout.{byte_of, place_at, places_at, are_bytes, names_ok, place_fields, places_fields, Wrote}
+use Rattle.shelf.specs.declared.Shelf.{Shelf}
+use Rattle.shelf.specs.Answers.{Saved}
+use Rattle.shelf.specs.Shelf.{saved, returned, save_of, return_of, drop_of}
+use Rattle.shelf_layout.specs.Doors.{answered, changed, held_of, shelf_save_door_of, shelf_return_door_of, shelf_drop_door_of}
+use Rattle.shelf_layout.specs.Layout.{byte_of, place_at, places_at, are_bytes, names_ok, place_fields, places_fields, shelf_fields, shelf_at, shelf_ok, Wrote}
 
 -- one element more
 added : {A : Type 0} (out rest : List A) (i : ℕ) (a : A) → i < length out → take (i + 1) (set out i a) ++ rest ≡ take i out ++ (a ∷ rest)
@@ -35,21 +46,12 @@ module _ (l : List Float) (o n i : ℕ) (h : i < n) (k : o + n ≤ length l) whe
       → take (i + 1) (set out i b) ++ map byte_of (take (n - (i + 1)) (drop (o + (i + 1)) l)) ≡ w
   read_on out w b e j left = added out _ i b j ∙ rw e (rw ahead at left)
 
-  pub test_on : (t b : Bool) → b ≡ is_whole 0 255 (get_or l (o + i) nan) → are_bytes (take (n - i) (drop (o + i) l)) ≡ t
-      → b && are_bytes (take (n - (i + 1)) (drop (o + (i + 1)) l)) ≡ t
-  unfolding are_bytes
-  test_on t b e left = rw e (rw ahead at left)
-
 module _ (l : List Float) (o n i : ℕ) (h : n ≤ i) where
   none : n - i ≡ 0
   none = omega arith
 
   pub read_end : (out w : List ℕ) → length out ≡ n → take i out ++ map byte_of (take (n - i) (drop (o + i) l)) ≡ w → out ≡ w
   read_end out w k left = ended out w i (omega arith) (rw none at left)
-
-  pub test_end : (t : Bool) → are_bytes (take (n - i) (drop (o + i) l)) ≡ t → true ≡ t
-  unfolding are_bytes
-  test_end t left = rw none at left
 
 -- a state further on
 pub state_on : (l : List Float) (o : ℕ) → state_at l (o + 13) ≡ state_at (drop o l) 13
@@ -85,6 +87,14 @@ module _ (l : List Float) (i : ℕ) (h : 16 ≤ i) where
   pub names_end : (t : Bool) → names_ok (16 - i) (drop (23 * i) l) ≡ t → true ≡ t
   unfolding names_ok
   names_end t left = rw past at left
+
+-- ---- bytes as doubles
+pub number_on : (out : List Float) (ns : List ℕ) (i : ℕ) (a : Float) (w : List Float) → a ≡ whole_of (get_or ns i 0) → i < length ns → i < length out
+    → take i out ++ map whole_of (drop i ns) ≡ w → take (i + 1) (set out i a) ++ map whole_of (drop (i + 1) ns) ≡ w
+number_on out ns i a w e j k left = added out _ i a k ∙ rw (e, add-one) (rw (drop-cons ns i 0 j) at left)
+
+pub number_end : (out : List Float) (ns : List ℕ) (i : ℕ) (w : List Float) → length out ≤ i → length ns ≤ i → take i out ++ map whole_of (drop i ns) ≡ w → out ≡ w
+number_end out ns i w h k left = ended out w i h (rw (drop_of_length-le ns {i = i} k) at left)
 
 -- ---- written
 pub place_written : {l m₁ m : List Float} {at : ℕ} (p : Place) → at + 23 ≤ length l → Wrote l at (map whole_of p.name) 13 m₁
@@ -127,3 +137,75 @@ written_all l r h =
     let e : 0 + length r ≡ length r = omega arith in
     let k : length l ≤ length r = omega arith in
     rw (e, drop_of_length-le l {i = length r} k, append-nil)
+
+-- ---- what a call leaves in the list
+pub taken : (l : List Float) (s : Shelf) {x : Saved} → saved 0 s ≡ x → answered 0 (shelf_fields s) ≡ changed x l
+unfolding changed
+taken l s e = rw (← e)
+
+pub turned_back : (l : List Float) (s : Shelf) (r : Refusal) {x : Saved} → saved (number_of r) s ≡ x → answered (number_of r) l ≡ changed x l
+unfolding changed
+turned_back l s r e = rw (← e, ne_eqb _ 0 (never_0 r))
+
+-- ---- a list that is a shelf, and one that is none
+pub held_ok : (l : List Float) {s : Shelf} → Ok s ≡ held_of l → (shelf_ok l ≡ true) × (s ≡ shelf_at l)
+held_ok l {s} e = go (shelf_ok l) refl e
+  where
+    go : (b : Bool) → shelf_ok l ≡ b → ◌≡◌ {A = Result Shelf Refusal} (Ok s) (cond b (Ok (shelf_at l)) (Err NotHeld)) → (shelf_ok l ≡ true) × (s ≡ shelf_at l)
+    go true k f = let g : s ≡ shelf_at l = cc in (k, g)
+    go false k f = absurd (cc)
+
+pub held_err : (l : List Float) {r : Refusal} → Err r ≡ held_of l → (shelf_ok l ≡ false) × (r ≡ NotHeld)
+held_err l {r} e = go (shelf_ok l) refl e
+  where
+    go : (b : Bool) → shelf_ok l ≡ b → ◌≡◌ {A = Result Shelf Refusal} (Err r) (cond b (Ok (shelf_at l)) (Err NotHeld)) → (shelf_ok l ≡ false) × (r ≡ NotHeld)
+    go false k f = let g : r ≡ NotHeld = cc in (k, g)
+    go true k f = absurd (cc)
+
+-- ---- the exported functions on a list of that length
+module _ (l m : List Float) (h : length l ≡ 368) (e : m ≡ l) (n : List ℕ) where
+  pub drop_none : {r : Refusal} → Err r ≡ held_of m → answered (number_of r) m ≡ shelf_drop_door_of l n
+  unfolding shelf_drop_door_of
+  drop_none x = let q = held_err l (rw e at x) in rw (e, eq-eqb _ _ h, q.0, q.1)
+
+  pub drop_back : {s t : Shelf} (r : Refusal) → Ok s ≡ held_of m → saved (number_of r) t ≡ drop_of s n → answered (number_of r) m ≡ shelf_drop_door_of l n
+  unfolding shelf_drop_door_of
+  drop_back {s} {t} r x y =
+      let q = held_ok l (rw e at x) in
+      rw (e, eq-eqb _ _ h, q.0) (turned_back l t r (y ∙ ap (λ (z : Shelf). drop_of z n) q.1))
+
+  pub drop_taken : {s t : Shelf} {w : List Float} → Ok s ≡ held_of m → saved 0 t ≡ drop_of s n → w ≡ shelf_fields t → answered 0 w ≡ shelf_drop_door_of l n
+  unfolding shelf_drop_door_of
+  drop_taken {s} {t} x y z =
+      let q = held_ok l (rw e at x) in
+      rw (eq-eqb _ _ h, q.0, z) (taken l t (y ∙ ap (λ (z : Shelf). drop_of z n) q.1))
+
+  module _ (st : List Float) (k : length st ≡ 10) where
+    pub save_none : {r : Refusal} → Err r ≡ held_of m → answered (number_of r) m ≡ shelf_save_door_of l n st
+    unfolding shelf_save_door_of
+    save_none x = let q = held_err l (rw e at x) in rw (e, eq-eqb _ _ h, eq-eqb _ _ k, q.0, q.1)
+
+    pub save_back : {s t : Shelf} (r : Refusal) → Ok s ≡ held_of m → saved (number_of r) t ≡ save_of s n (state_at st 0)
+        → answered (number_of r) m ≡ shelf_save_door_of l n st
+    unfolding shelf_save_door_of
+    save_back {s} {t} r x y =
+        let q = held_ok l (rw e at x) in
+        rw (e, eq-eqb _ _ h, eq-eqb _ _ k, q.0) (turned_back l t r (y ∙ ap (λ (z : Shelf). save_of z n (state_at st 0)) q.1))
+
+    pub save_taken : {s t : Shelf} {w : List Float} → Ok s ≡ held_of m → saved 0 t ≡ save_of s n (state_at st 0) → w ≡ shelf_fields t
+        → answered 0 w ≡ shelf_save_door_of l n st
+    unfolding shelf_save_door_of
+    save_taken {s} {t} x y z =
+        let q = held_ok l (rw e at x) in
+        rw (eq-eqb _ _ h, eq-eqb _ _ k, q.0, z) (taken l t (y ∙ ap (λ (z : Shelf). save_of z n (state_at st 0)) q.1))
+
+    pub return_none : {r : Refusal} → Err r ≡ held_of m → answered (number_of r) st ≡ shelf_return_door_of l n st
+    unfolding shelf_return_door_of
+    return_none x = let q = held_err l (rw e at x) in rw (eq-eqb _ _ h, eq-eqb _ _ k, q.0, q.1)
+
+    pub return_handed : {s : Shelf} (a : ℕ) (b : BallState) {w : List Float} → Ok s ≡ held_of m → returned a b ≡ return_of s n
+        → w ≡ written st 0 (state_fields b) → answered a w ≡ shelf_return_door_of l n st
+    unfolding shelf_return_door_of
+    return_handed a b x y z =
+        let q = held_ok l (rw e at x) in
+        rw (eq-eqb _ _ h, eq-eqb _ _ k, q.0, ← q.1, ← y, z, written_all st (state_fields b) k)

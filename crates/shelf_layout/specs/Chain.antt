@@ -4,7 +4,7 @@ use Rattle.std.specs.Prelude.{ℕ, ◌≡◌, refl, true, List, [], ◌∷◌, e
 use Rattle.std.proofs.Common.{ap, sym, inl, inr}
 use borrow.Author.Tests.{eqb-true, eqb-false, eq-eqb}
 use Rattle.fields.specs.Fields.{vec_at, state_at, state_fields}
-use Rattle.shelf.specs.declared.Saved.{Saved}
+use Rattle.shelf.specs.Answers.{Saved}
 use Rattle.shelf.specs.declared.Shelf.{Shelf}
 use Rattle.shelf.specs.Map.{Map, empty_map, Call, Out, out, told, call, map_outs}
 use Rattle.shelf.specs.Shelf.{empty_shelf, save_of, drop_of}

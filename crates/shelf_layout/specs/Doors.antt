@@ -1,9 +1,11 @@
 -- Definitions. What the shelf's exported functions give: the answer and the list that they may change (include/dimple.h). 100 for a length that is not
 -- the one named, 101 for doubles that are no shelf.
-use Rattle.std.specs.Prelude.{ℕ, ◌&&◌, cond, List, eqb, length, Float}
+use Rattle.std.specs.Prelude.{ℕ, ◌&&◌, cond, List, eqb, length, Float, Result, Ok, Err}
 use Rattle.fields.specs.Fields.{state_at, state_fields}
-use Rattle.shelf.specs.declared.Saved.{Saved}
-use Rattle.shelf.specs.declared.Returned.{Returned}
+use Rattle.shelf.specs.Answers.{Saved, Returned}
+use Rattle.shelf.specs.declared.Shelf.{Shelf}
+use Rattle.refusal.specs.declared.Refusal.{Refusal}
+use Rattle.refusal.specs.declared.Refusal.TheVariants.{NotHeld}
 use Rattle.shelf.specs.Shelf.{empty_shelf, save_of, return_of, drop_of}
 use Rattle.shelf_layout.specs.Layout.{shelf_at, shelf_ok, shelf_fields}
 
@@ -14,6 +16,10 @@ pub record Answered : Type 0 where
 
 abbrev pub answered : ℕ → List Float → Answered
 answered a l = record { answer = a; list = l }
+
+-- the shelf that a list is, or the refusal that 101 stands for
+abbrev pub held_of : List Float → Result Shelf Refusal
+held_of l = cond (shelf_ok l) (Ok (shelf_at l)) (Err NotHeld)
 
 -- dimple_shelf_new
 unfoldable pub shelf_new_door_of : List Float → Answered

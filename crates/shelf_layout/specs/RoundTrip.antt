@@ -1,5 +1,5 @@
 -- Statements. A shelf as 368 doubles is read back as it was, for every shelf that the functions of crates/shelf make. Assumes nothing.
-use Rattle.std.specs.Prelude.{ℕ, zero, suc, ◌+◌, ◌*◌, ◌≤◌, ◌≡◌, refl, true, leb, eqb, length, take, drop, Float}
+use Rattle.std.specs.Prelude.{ℕ, zero, suc, ◌*◌, ◌≤◌, ◌≡◌, refl, true, leb, eqb, length, take, drop, Float}
 use Rattle.std.proofs.Common.{arith, ap, ◌∙◌, sym, take_at, drop_at, get_or-drop, leb-true, eqb-true, le-leb}
 use Rattle.std.proofs.Math.Path.{subst}
 use mathlib.Core.List.{List, [], ◌∷◌, ◌++◌, map, append_assoc}

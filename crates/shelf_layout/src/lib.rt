@@ -2,23 +2,25 @@
 #![tactic(auto)]
 
 ghost use Rattle.std.specs.Prelude.{◌≡◌, ◌+◌, ◌≤◌, map, length, take, drop};
+ghost use Rattle.refusal.specs.Refusal.{answer_by};
 ghost use Rattle.fields.specs.Fields.{whole_of};
-ghost use Rattle.shelf.specs.Shelf.{return_of};
-ghost use Rattle.shelf_layout.specs.Layout.{byte_of, place_at, places_at, shelf_at, are_bytes, names_ok, shelf_ok, place_fields, places_fields, shelf_fields, Wrote};
-ghost use Rattle.shelf_layout.specs.Doors.{answered, shelf_new_door_of, changed, saved_in, dropped_in, handed, shelf_save_door_of, shelf_return_door_of, shelf_drop_door_of};
+ghost use Rattle.shelf_layout.specs.Layout.{byte_of, place_at, places_at, shelf_at, are_bytes, names_ok, shelf_ok, place_fields, places_fields, Wrote};
+ghost use Rattle.shelf_layout.specs.Doors.{answered, held_of, shelf_new_door_of, shelf_save_door_of, shelf_return_door_of, shelf_drop_door_of};
 
 use fields::{is_whole, nat_of};
-use shelf::{Place, Saved, Shelf};
+use refusal::Refusal;
+use shelf::{Place, Shelf};
+
+// The doubles of a shelf.
+const SHELF_LENGTH: usize = 368;
 
 // A double without its fraction, or 0 where that is no byte.
+#[tactic(auto, unfolding(crate::specs::Layout::byte_of))]
 fn byte_of(x: f64) -> u8
     ensures { result ≡ byte_of x }
 {
     let n = nat_of(x);
-    if n <= 255 {
-        return n as u8;
-    }
-    0
+    if n <= 255 { n as u8 } else { 0 }
 }
 
 // The 13 bytes of a name from `o` on.
@@ -27,10 +29,8 @@ fn name_at(l: &[f64], o: usize) -> [u8; 13]
     ensures { result ≡ map byte_of (take 13 (drop o l.now)) }
 {
     let mut out = [0u8; 13];
-    let mut i = 0;
-    while i < 13 {
+    for i in 0..13 {
         out[i] = byte_of(l[o + i]);
-        i += 1;
     }
     out
 }
@@ -39,211 +39,140 @@ fn place_at(l: &[f64], o: usize) -> Place
     requires { o + 23 ≤ length l.now }
     ensures { result ≡ place_at (drop o l.now) }
 {
-    let name = name_at(l, o);
-    let state = fields::state_at(l, o + 13);
-    Place { name, state }
+    Place {
+        name: name_at(l, o),
+        state: fields::state_at(l, o + 13),
+    }
 }
 
-fn places_at(l: &[f64]) -> [Place; 16]
-    requires { length l.now ≡ 368 }
+fn places_at(l: &[f64; SHELF_LENGTH]) -> [Place; 16]
     ensures { result ≡ places_at 16 l.now }
 {
-    let empty = place_at(l, 0);
-    let mut out = [empty; 16];
-    let mut i = 0;
-    while i < 16 {
+    let mut out = [place_at(l, 0); 16];
+    for i in 0..16 {
         out[i] = place_at(l, 23 * i);
-        i += 1;
     }
     out
 }
 
-// Whether the 13 doubles from `o` on are bytes.
-fn name_ok(l: &[f64], o: usize) -> bool
-    requires { o + 13 ≤ length l.now }
-    ensures { result ≡ are_bytes (take 13 (drop o l.now)) }
+// Whether the doubles are bytes.
+fn are_bytes(l: &[f64]) -> bool
+    ensures { result ≡ are_bytes l.now }
 {
-    let mut i = 0;
-    while i < 13 {
-        if !is_whole(l[o + i], 0, 255) {
-            return false;
-        }
-        i += 1;
-    }
-    true
+    l.iter().all(|x| is_whole(*x, 0, 255))
 }
 
-fn names_ok(l: &[f64]) -> bool
-    requires { length l.now ≡ 368 }
+fn names_ok(l: &[f64; SHELF_LENGTH]) -> bool
     ensures { result ≡ names_ok 16 l.now }
 {
-    let mut i = 0;
-    while i < 16 {
-        if !name_ok(l, 23 * i) {
+    for i in 0..16 {
+        let at = 23 * i;
+        if !are_bytes(&l[at..at + 13]) {
             return false;
         }
-        i += 1;
     }
     true
 }
 
-fn shelf_at(l: &[f64]) -> Shelf
-    requires { length l.now ≡ 368 }
-    ensures { result ≡ shelf_at l.now }
+// The shelf that the doubles are.
+#[tactic(auto, unfolding(crate::specs::Layout::shelf_ok))]
+fn held_in(l: &[f64; SHELF_LENGTH]) -> Result<Shelf, Refusal>
+    ensures { result ≡ held_of l.now }
 {
-    let places = places_at(l);
-    Shelf { places }
-}
-
-// Whether the doubles are a shelf's.
-fn shelf_ok(l: &[f64]) -> bool
-    requires { length l.now ≡ 368 }
-    ensures { result ≡ shelf_ok l.now }
-{
-    let s = shelf_at(l);
-    names_ok(l) & s.is_sound()
-}
-
-fn wide(b: u8) -> u64
-    ensures { result ≡ b }
-{
-    b as u64
-}
-
-fn write_name(out: &mut [f64], at: usize, name: [u8; 13])
-    requires { at + 13 ≤ length out.old }
-    ensures { Wrote out.old «at» (map whole_of name) 13 out.new }
-{
-    let mut i = 0;
-    while i < 13 {
-        out[at + i] = fields::whole(wide(name[i]));
-        i += 1;
+    let shelf = Shelf {
+        places: places_at(l),
+    };
+    if names_ok(l) & shelf.is_sound() {
+        return Ok(shelf);
     }
+    Err(Refusal::NotHeld)
 }
 
-fn write_place(out: &mut [f64], at: usize, p: Place)
+fn name_numbers(name: &[u8; 13]) -> [f64; 13]
+    ensures { result ≡ map whole_of name.now }
+{
+    let mut out = [0.0; 13];
+    for i in 0..13 {
+        out[i] = fields::whole(name[i] as u64);
+    }
+    out
+}
+
+fn write_place(out: &mut [f64], at: usize, p: &Place)
     requires { at + 23 ≤ length out.old }
-    ensures { Wrote out.old «at» (place_fields p) 23 out.new }
+    ensures { Wrote out.old «at» (place_fields p.now) 23 out.new }
 {
-    let name = p.name;
-    let state = p.state;
-    write_name(out, at, name);
-    fields::put_state(out, at + 13, state);
+    fields::put(out, at, &name_numbers(&p.name));
+    fields::put_state(out, at + 13, p.state);
 }
 
-fn write_places(out: &mut [f64], places: [Place; 16])
-    requires { length out.old ≡ 368 }
-    ensures { out.new ≡ places_fields places }
+// Writes a shelf's places over the doubles.
+fn write_shelf(out: &mut [f64; SHELF_LENGTH], places: &[Place; 16])
+    ensures { out.new ≡ places_fields places.now }
 {
-    let mut i = 0;
-    while i < 16 {
-        write_place(out, 23 * i, places[i]);
-        i += 1;
+    for i in 0..16 {
+        write_place(out, 23 * i, &places[i]);
     }
-}
-
-// Writes the shelf over the doubles.
-fn write_shelf(out: &mut [f64], s: Shelf)
-    requires { length out.old ≡ 368 }
-    ensures { out.new ≡ shelf_fields s }
-{
-    let places = s.places;
-    write_places(out, places);
-}
-
-// The new shelf; on a number nothing.
-fn write_changed(out: &mut [f64], r: Saved) -> u32
-    requires { length out.old ≡ 368 }
-    ensures { answered result out.new ≡ changed r out.old }
-{
-    let answer = r.answer;
-    if answer != 0 {
-        return answer;
-    }
-    let s = r.shelf;
-    write_shelf(out, s);
-    0
-}
-
-// A save in a list that is a shelf.
-fn save_held(shelf: &mut [f64], name: &[u8], state: &[f64]) -> u32
-    requires { (length shelf.old ≡ 368) × (length state.now ≡ 10) }
-    ensures { answered result shelf.new ≡ saved_in shelf.old name.now state.now }
-{
-    let b = fields::state_at(state, 0);
-    let s = shelf_at(shelf);
-    write_changed(shelf, s.save(name, b))
-}
-
-fn return_held(shelf: &[f64], name: &[u8], state: &mut [f64]) -> u32
-    requires { (length shelf.now ≡ 368) × (length state.old ≡ 10) }
-    ensures { answered result state.new ≡ handed (return_of (shelf_at shelf.now) name.now) }
-{
-    let s = shelf_at(shelf);
-    let r = s.return_to(name);
-    let b = r.state;
-    fields::put_state(state, 0, b);
-    r.answer
-}
-
-fn drop_held(shelf: &mut [f64], name: &[u8]) -> u32
-    requires { length shelf.old ≡ 368 }
-    ensures { answered result shelf.new ≡ dropped_in shelf.old name.now }
-{
-    let s = shelf_at(shelf);
-    write_changed(shelf, s.drop(name))
 }
 
 // ---- what capi exports
 
-pub fn new_in(shelf: &mut [f64]) -> u32
-    ensures { answered result shelf.new ≡ shelf_new_door_of shelf.old }
+pub fn new_in(shelf: &mut [f64]) -> Result<(), Refusal>
+    ensures { answered (answer_by result) shelf.new ≡ shelf_new_door_of shelf.old }
 {
-    if shelf.len() != 368 {
-        return 100;
-    }
-    write_shelf(shelf, Shelf::new());
-    0
+    let Some(list) = shelf.as_mut_array() else {
+        return Err(Refusal::LentLength);
+    };
+    write_shelf(list, &Shelf::new().places);
+    Ok(())
 }
 
-pub fn save_in(shelf: &mut [f64], name: &[u8], state: &[f64]) -> u32
-    ensures { answered result shelf.new ≡ shelf_save_door_of shelf.old name.now state.now }
+pub fn save_in(shelf: &mut [f64], name: &[u8], state: &[f64]) -> Result<(), Refusal>
+    ensures { answered (answer_by result) shelf.new ≡ shelf_save_door_of shelf.old name.now state.now }
 {
-    if shelf.len() != 368 {
-        return 100;
-    }
+    let Some(list) = shelf.as_mut_array() else {
+        return Err(Refusal::LentLength);
+    };
     if state.len() != 10 {
-        return 100;
+        return Err(Refusal::LentLength);
     }
-    if shelf_ok(shelf) {
-        return save_held(shelf, name, state);
-    }
-    101
+    let mut held = held_in(list)?;
+    held.save(name, &fields::state_at(state, 0))?;
+    write_shelf(list, &held.places);
+    Ok(())
 }
 
-pub fn return_in(shelf: &[f64], name: &[u8], state: &mut [f64]) -> u32
-    ensures { answered result state.new ≡ shelf_return_door_of shelf.now name.now state.old }
+// The state; +0 in each double where a shelf refuses.
+pub fn return_in(shelf: &[f64], name: &[u8], state: &mut [f64]) -> Result<(), Refusal>
+    ensures { answered (answer_by result) state.new ≡ shelf_return_door_of shelf.now name.now state.old }
 {
-    if shelf.len() != 368 {
-        return 100;
-    }
+    let Some(list) = shelf.as_array() else {
+        return Err(Refusal::LentLength);
+    };
     if state.len() != 10 {
-        return 100;
+        return Err(Refusal::LentLength);
     }
-    if shelf_ok(shelf) {
-        return return_held(shelf, name, state);
+    let held = held_in(list)?;
+    match held.return_to(name) {
+        Ok(s) => {
+            fields::put_state(state, 0, s);
+            Ok(())
+        }
+        Err(refusal) => {
+            fields::put(state, 0, &[0.0; 10]);
+            Err(refusal)
+        }
     }
-    101
 }
 
-pub fn drop_in(shelf: &mut [f64], name: &[u8]) -> u32
-    ensures { answered result shelf.new ≡ shelf_drop_door_of shelf.old name.now }
+pub fn drop_in(shelf: &mut [f64], name: &[u8]) -> Result<(), Refusal>
+    ensures { answered (answer_by result) shelf.new ≡ shelf_drop_door_of shelf.old name.now }
 {
-    if shelf.len() != 368 {
-        return 100;
-    }
-    if shelf_ok(shelf) {
-        return drop_held(shelf, name);
-    }
-    101
+    let Some(list) = shelf.as_mut_array() else {
+        return Err(Refusal::LentLength);
+    };
+    let mut held = held_in(list)?;
+    held.drop(name)?;
+    write_shelf(list, &held.places);
+    Ok(())
 }

@@ -2,10 +2,12 @@
 #![tactic(auto)]
 
 ghost use Rattle.std.specs.Prelude.{◌≡◌};
+ghost use Rattle.refusal.specs.Refusal.{answer_by};
 ghost use Rattle.shot.specs.Physics.{physics_new};
 ghost use Rattle.shot.specs.Tests.{step_physics_ok, physics_ok, ball_ok, density_ok, vec_about, landing_ok, input_test};
 
 use aero::BallModel;
+use refusal::Refusal;
 use state::BallState;
 use vector::DVec3;
 
@@ -96,6 +98,7 @@ fn density_ok(air_density: f64) -> bool
     number::within(0.0, 10.0, air_density)
 }
 
+#[tactic(auto, unfolding(crate::specs::Tests::vec_about))]
 fn vec_about(r: f64, v: DVec3) -> bool
     ensures { result ≡ vec_about r v }
 {
@@ -105,33 +108,28 @@ fn vec_about(r: f64, v: DVec3) -> bool
 pub fn landing_ok(s: BallState) -> bool
     ensures { result ≡ landing_ok s }
 {
-    let pos = s.pos;
-    let vel = s.vel;
-    let spin = s.spin;
     number::within(0.0, 100000.0, s.time)
-        & vec_about(100000.0, pos)
-        & vec_about(200.0, vel)
-        & vec_about(5000.0, spin)
+        & vec_about(100000.0, s.pos)
+        & vec_about(200.0, s.vel)
+        & vec_about(5000.0, s.spin)
 }
 
-// The first of 4 to 7 that fails, or 0.
-pub fn input_test(shot: Shot) -> u32
-    ensures { result ≡ input_test shot }
+// Whether a shot passes the tests 4 to 7; if not, the first that it fails.
+#[tactic(auto, unfolding(crate::specs::Tests::input_test))]
+pub fn input_test(shot: &Shot) -> Result<(), Refusal>
+    ensures { answer_by result ≡ input_test shot.now }
 {
-    let physics = shot.physics;
-    let ball = shot.ball;
-    let landing = shot.landing;
-    if !physics_ok(physics, shot.step_limit) {
-        return 4;
+    if !physics_ok(shot.physics, shot.step_limit) {
+        return Err(Refusal::Physics);
     }
-    if !ball_ok(ball) {
-        return 5;
+    if !ball_ok(shot.ball) {
+        return Err(Refusal::Ball);
     }
     if !density_ok(shot.air_density) {
-        return 6;
+        return Err(Refusal::AirDensity);
     }
-    if !landing_ok(landing) {
-        return 7;
+    if !landing_ok(shot.landing) {
+        return Err(Refusal::Landing);
     }
-    0
+    Ok(())
 }

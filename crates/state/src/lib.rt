@@ -15,21 +15,29 @@ pub struct BallState {
     pub spin: DVec3,
 }
 
-// What the ball does over a step.
-#[derive(Clone, Copy)]
-pub enum Phase {
-    Hop,
-    Slide,
-    Roll,
+impl BallState {
+    pub const ZERO: BallState = BallState {
+        time: 0.0,
+        pos: DVec3::ZERO,
+        vel: DVec3::ZERO,
+        spin: DVec3::ZERO,
+    };
 }
 
-// How a settle ended.
-#[derive(Clone, Copy)]
+// What the ball does over a step.
+#[derive(Clone, Copy, PartialEq, Eq)]
+pub enum Phase {
+    Hop = 0,
+    Slide = 1,
+    Roll = 2,
+}
+
+// How a settle ended; of one that did not, there is none.
+#[derive(Clone, Copy, PartialEq, Eq)]
 pub enum Termination {
-    Nothing,
-    Rest,
-    MaxTime,
-    MaxImpacts,
+    Rest = 1,
+    MaxTime = 2,
+    MaxImpacts = 3,
 }
 
 // A number of a state or of a spot.
@@ -39,30 +47,17 @@ pub fn coord_ok(x: f64) -> bool
     number::within(-1000000.0, 1000000.0, x)
 }
 
+#[tactic(auto, unfolding(crate::specs::State::vec_ok))]
 fn vec_ok(v: DVec3) -> bool
     ensures { result ≡ vec_ok v }
 {
-    if coord_ok(v.x) {
-        if coord_ok(v.y) { coord_ok(v.z) } else { false }
-    } else {
-        false
-    }
+    coord_ok(v.x) && coord_ok(v.y) && coord_ok(v.z)
 }
 
 // Test 22.
+#[tactic(auto, unfolding(crate::specs::State::state_ok))]
 pub fn state_ok(s: BallState) -> bool
     ensures { result ≡ state_ok s }
 {
-    let pos = s.pos;
-    let vel = s.vel;
-    let spin = s.spin;
-    if coord_ok(s.time) {
-        if vec_ok(pos) {
-            if vec_ok(vel) { vec_ok(spin) } else { false }
-        } else {
-            false
-        }
-    } else {
-        false
-    }
+    coord_ok(s.time) && vec_ok(s.pos) && vec_ok(s.vel) && vec_ok(s.spin)
 }

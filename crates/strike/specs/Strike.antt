@@ -1,6 +1,6 @@
 -- Definitions. One impact of the train of ground.rs, fn settle, with the tests that 01 adds: the strike, the rebound that is flown or not, the drop
 -- to the ground.
-use Rattle.std.specs.Prelude.{Bool, ◌&&◌, cond, not}
+use Rattle.std.specs.Prelude.{Bool, ◌&&◌, cond, not, Option, Some, None}
 use Rattle.std.specs.Float.Ieee.{le, lt}
 use Rattle.number.specs.Ops.{◌⊗◌, dec}
 use Rattle.vector.specs.Vec.{vsub, vscale, vdot, vlength, vnormalize}
@@ -17,8 +17,6 @@ use Rattle.hop.specs.Hop.{hop}
 use Rattle.hop.specs.declared.Way.{Way}
 use Rattle.hop.specs.declared.Way.TheVariants.{Arrived, Late}
 use Rattle.strike.specs.declared.Struck.{Struck}
-use Rattle.strike.specs.declared.Flown.{Flown}
-use Rattle.strike.specs.declared.Flown.TheVariants.{Hop, Ground}
 
 abbrev pub struck : GroundSample → BallState → Struck
 struck s out = record { «at» = s; out = out }
@@ -46,20 +44,20 @@ module _ (c : Conditions) where
   unfoldable pub dies_out : BallState → Struck → BallState → Bool
   dies_out state hit arrival = hops_die_out state hit.out arrival (vnormalize hit.«at».normal) c.ball c.physics.min_hop_height
 
-  -- flown and kept; or not flown, or discarded. 01: "a discarded hop's points go". The hop is an argument
-  unfoldable pub fly_by : (BallState → M Way) → Bool → BallState → Struck → M Flown
-  fly_by hop hops state hit = if not hops then pure Ground else do
+  -- flown and kept; or not flown, or discarded, and the ball drops to the ground here. 01: "a discarded hop's points go". The hop is an argument
+  unfoldable pub fly_by : (BallState → M Way) → Bool → BallState → Struck → M (Option Way)
+  fly_by hop hops state hit = if not hops then pure None else do
     m ← mark
     push_point hit.out InHop
     way ← hop hit.out
     elim way [
-      | Late b ↦ pure (Hop (Late b))
-      | Arrived b ↦ if dies_out state hit b then pure (Hop (Arrived b)) else do
+      | Late b ↦ pure (Some (Late b))
+      | Arrived b ↦ if dies_out state hit b then pure (Some (Arrived b)) else do
         truncate m
-        pure Ground
+        pure None
     ]
 
-  abbrev pub fly : Bool → BallState → Struck → M Flown
+  abbrev pub fly : Bool → BallState → Struck → M (Option Way)
   fly = fly_by (hop c)
 
   -- ---- the drop to the ground

@@ -79,6 +79,7 @@ impl RollLaw {
     {
         match self {
             RollLaw::Constant => 1.0,
+            // Both arms test s: with `map_or` and a closure in each the proof didn't close, as what `map_or` ensures of an inferred closure can't be named.
             RollLaw::Quadratic { v_ref } => {
                 let s = speed / v_ref;
                 if number::is_finite(s) {
@@ -131,11 +132,11 @@ impl Surface {
     }
 
     // Effective rolling-resistance coefficient at the speed (m/s).
+    #[tactic(auto, unfolding(crate::specs::Surface::rolling_friction))]
     pub fn rolling_friction(self, speed: f64) -> f64
         ensures { result ≡ rolling_friction self speed }
     {
-        let law = self.roll_law;
-        self.mu_roll * law.speed_factor(speed)
+        self.mu_roll * self.roll_law.speed_factor(speed)
     }
 
     // Effective contact angle (rad) for an impact with tangential speed v_t and normal approach speed v_n.

@@ -1,9 +1,11 @@
 -- Lemmas: a loop of passes, what holds midway in it, and how it goes on and ends.
-use Rattle.std.proofs.Common.{◌≡◌, ℕ, suc, ◌-◌, ◌<◌, ◌≤◌, Bool, true, false, refl, arith}
+use Rattle.std.proofs.Common.{◌≡◌, ℕ, suc, ◌-◌, ◌<◌, ◌≤◌, Bool, true, false, refl, arith, Result, Ok, Err, ControlFlow, Continue, Break}
 use Rattle.look.specs.Tree.{Oracle, exec}
 use Rattle.tally.specs.declared.Conditions.{Conditions}
 use Rattle.tally.specs.Language.{M, Outcome, goes, stops, pure, stop_with, ◌>>=◌, steps_left, Pass, again, loop}
-use Rattle.tally.specs.Inner.{Place, log_at, Runs, RunsOn, Reached, Bounded, over_by}
+use Rattle.tally.specs.Inner.{Place, log_at, Runs, RunsOn, Reached, Bounded, over_by, passes_by}
+use Rattle.refusal.specs.declared.Refusal.{Refusal}
+use Rattle.refusal.specs.Refusal.{number_of}
 use Rattle.tally.proofs.Words as Words
 use Rattle.tally.proofs.Reached.{begun, ended, on, came, said, beyond, last}
 
@@ -59,6 +61,17 @@ module _ {A B : Type 0} {o : Oracle} {c : Conditions} {late : A → Bool} {at_en
     pub ends_done : (y : Outcome B) → x ≡ over_by y → RunsOn o (whole c late at_end pass a₀) p₀ y p'
     unfolding exec
     ends_done y z = on (ended (beyond here.reached r (Words.loop_done o _ late at_end pass a _ y one_less e r.same z)))
+
+  -- the same, by what the code's pass gave
+  module _ (e : late a ≡ false) (h : p.tally.steps < c.step_limit) {w : Result (ControlFlow B A) Refusal} {p' : Place} (r : Runs o (pass a) 1 p (passes_by w) p') where
+    pub continues : {v : ControlFlow B A} {b : A} → w ≡ Ok v → v ≡ Continue b → Midway o c late at_end pass a₀ p₀ b p'
+    continues i j = goes_on e h (rw (i, j) at r) refl
+
+    pub breaks : {v : ControlFlow B A} {y : B} → w ≡ Ok v → v ≡ Break y → RunsOn o (whole c late at_end pass a₀) p₀ (goes y) p'
+    breaks {y} i j = ends_done e h (rw (i, j) at r) (goes y) refl
+
+    pub stops_by : {s : Refusal} → w ≡ Err s → RunsOn o (whole c late at_end pass a₀) p₀ (stops (number_of s)) p'
+    stops_by {s} i = ends_done e h (rw i at r) (stops (number_of s)) refl
 
 -- 23: what is left of a loop that may make no step more, and is not late
 pub due_stops : {A B : Type 0} {o : Oracle} (late : A → Bool) (at_end : A → M B) (pass : A → M (Pass A B)) (a : A) {m : M B} {p₀ p : Place} {n : ℕ}

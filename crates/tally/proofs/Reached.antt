@@ -1,5 +1,5 @@
 -- Lemmas: how far a run has come, from the place before a call to the place after it. Two laws serve every call, a word or a part of the settle:
--- `went`, where the call goes on, and `halted`, where it stops.
+-- `passes`, where the call goes on, and `fails`, where it stops.
 use Rattle.std.proofs.Common.{◌≡◌, ℕ, ◌+◌, ◌-◌, ◌*◌, ◌/◌, ◌<◌, ◌≤◌, Bool, true, false, not, ltb, List, [], ◌∷◌, ◌++◌, length, drop, replicate, sym, refl, ap, ◌∙◌, le-div_iff_mul-le, arith, length-append, ltb-true}
 use lib.Ieee.{Float}
 use lib.ListN.{length-replicate}
@@ -14,19 +14,14 @@ use Rattle.records.proofs.Laws.{recs-length, recs_zeroed, clean_zeroed, zeroed_l
 use Rattle.tally.specs.Language.{M, Outcome, goes, stops, Ran, ran, stop_with, ◌>>=◌, when, seen_at, contact, point_width}
 use Rattle.std.specs.Prelude.{if◌then◌else◌}
 use Rattle.tally.specs.Language.{contact_width, contact_of, make_step, look, test, put_point, push_point, push_contact, mark, truncate}
-use Rattle.tally.specs.Inner.{Place, place, log_at, RunsBy, Runs, RunsOn, Reached, MakesStep, LooksAt, Tests, PushesPoint, PushesIf, PushesContact}
+use Rattle.tally.specs.Inner.{Place, place, log_at, RunsBy, Runs, RunsOn, Reached, MakesStep, outcome_by, Tests, PushesPoint, PushesContact}
 use Rattle.tally.specs.Inner.{Truncates}
 use Rattle.tally.specs.Lists.{stay, grow}
 use Rattle.tally.proofs.Words as Words
 use Rattle.tally.specs.declared.Tally.{Tally}
-use Rattle.tally.specs.declared.Looked.{Looked}
-use Rattle.tally.specs.declared.Looked.TheVariants.{Off, Saw}
-use Rattle.tally.specs.declared.Tested.{Tested}
-use Rattle.tally.specs.declared.Tested.TheVariants.{Bad, Good}
-use Rattle.tally.specs.declared.Push.{Push}
-use Rattle.tally.specs.declared.Push.TheVariants.{Full, Made as Pushed}
-use Rattle.tally.specs.declared.PointPush.{PointPush}
-use Rattle.tally.specs.declared.PointPush.TheVariants.{Ended, Made as Pointed}
+use Rattle.refusal.specs.declared.Refusal.{Refusal}
+use Rattle.refusal.specs.Refusal.{number_of}
+use Rattle.std.specs.Prelude.{Result, Ok, Err}
 
 module _ {A : Type 0} {o : Oracle} {m : M A} {a : Place} where
   pub begun : Reached o m a 0 m a
@@ -175,60 +170,30 @@ module _ {o : Oracle} {p q : Place} where
       go false t e = absurd (let f = ap (λ (d : Did (Ran Unit)). d.value.outcome) e in let z : ◌≡◌ {A = ℕ} 0 1 = cc (f) in omega arith)
 
 -- a test makes no evaluation
-pub no_work_tested : (o : Oracle) (b : BallState) {t t' : Tally} {w : Tested} → Tests t b w → w ≡ Good t' → t'.evaluations ≤ t.evaluations
-no_work_tested o b h v = let r = rw v at (h o [] []) in omega (arith, r.work)
+pub no_work_tested : (o : Oracle) (b : BallState) {t t' : Tally} (w : Result BallState Refusal) → Tests t b w t' → t'.evaluations ≤ t.evaluations
+no_work_tested o b w h = let r = h o [] [] in omega (arith, r.work)
 
--- ---- the code's words, each with the ways that it can go
-module _ {A : Type 0} {o : Oracle} {m : M A} {a : Place} {n : ℕ} {t : Tally} {lc lp : List Float} where
-  pub step_made_lem : (s : Made) (k : Made → M A) {t' : Tally} → Reached o m a n (make_step s >>= k) (place t lc lp) → MakesStep t s.evaluations t'
-      → Reached o m a (n + 1) (k s) (place t' lc lp)
-  step_made_lem s k r h = went _ k r (h.runs o s refl lc lp)
+-- ---- a call of the code that goes on with a value, or stops by its refusal's number
+module _ {A B : Type 0} {o : Oracle} {m : M A} {a b : Place} {n : ℕ} (w : M B) (k : B → M A) (r : Reached o m a n (w >>= k) b)
+    {j : ℕ} {x : Result B Refusal} {b' : Place} (h : Runs o w j b (outcome_by x) b') where
+  pub passes : {v : B} → x ≡ Ok v → Reached o m a (n + j) (k v) b'
+  passes e = went w k r (rw e at h)
 
-  module _ (x z : Float) (k : GroundSample → M A) {w : Looked} (r : Reached o m a n (look x z >>= k) (place t lc lp)) (h : LooksAt o t x z w) where
-    pub spot_seen : {s : GroundSample} {t' : Tally} → w ≡ Saw s t' → Reached o m a (n + 0) (k s) (place t' lc lp)
-    spot_seen v = went _ k r (rw v at (h lc lp))
+  pub fails : {e : Refusal} → x ≡ Err e → Reached o m a (n + j) (stop_with (number_of e)) b'
+  fails e = halted w k r (rw e at h)
 
-    pub spot_off : w ≡ Off → Reached o m a (n + 0) (stop_with 22) (place t lc lp)
-    spot_off v = halted _ k r (rw v at (h lc lp))
-
-  -- the definition's state is b', the code's is b
-  module _ (k : BallState → M A) {b b' : BallState} {w : Tested} (r : Reached o m a n (test b' >>= k) (place t lc lp)) (e : b ≡ b') (h : Tests t b w) where
-    pub state_good : {t' : Tally} → w ≡ Good t' → Reached o m a (n + 0) (k b) (place t' lc lp)
-    state_good v = went (test b) k (rw (← e) at r) (rw v at (h o lc lp))
-
-    pub state_bad : w ≡ Bad → Reached o m a (n + 0) (stop_with 22) (place t lc lp)
-    state_bad v = halted (test b) k (rw (← e) at r) (rw v at (h o lc lp))
-
-  module _ (s : BallState) (f : Phase) (k : Unit → M A) {w : PointPush} {l : List Float} where
-    module _ (r : Reached o m a n (push_point s f >>= k) (place t lc lp)) (h : PushesPoint o t lp s f w l) where
-      pub point_pushed : {t' : Tally} → w ≡ Pointed t' → Reached o m a (n + 0) (k tt) (place t' lc l)
-      point_pushed v = went _ k r (rw v at (h lc))
-
-      pub point_stopped : {i : ℕ} {t' : Tally} → w ≡ Ended i t' → Reached o m a (n + 0) (stop_with i) (place t' lc l)
-      point_stopped v = halted _ k r (rw v at (h lc))
-
-    module _ (due : Bool) (r : Reached o m a n (when due (push_point s f) >>= k) (place t lc lp)) (h : PushesIf o due t lp s f w l) where
-      pub due_pushed : {t' : Tally} → w ≡ Pointed t' → Reached o m a (n + 0) (k tt) (place t' lc l)
-      due_pushed v = went _ k r (rw v at (h lc))
-
-      pub due_stopped : {i : ℕ} {t' : Tally} → w ≡ Ended i t' → Reached o m a (n + 0) (stop_with i) (place t' lc l)
-      due_stopped v = halted _ k r (rw v at (h lc))
-
-  module _ (b : BallState) (s : GroundSample) (d : BallState) (k : Unit → M A) {w : Push} {l : List Float}
-      (r : Reached o m a n (push_contact b s d >>= k) (place t lc lp)) (h : PushesContact t lc b s d w l) where
-    pub contact_pushed : {t' : Tally} → w ≡ Pushed t' → Reached o m a (n + 0) (k tt) (place t' l lp)
-    contact_pushed v = went _ k r (rw v at (h o lp))
-
-    pub contacts_full : w ≡ Full → Reached o m a (n + 0) (stop_with 20) (place t l lp)
-    contacts_full v = halted _ k r (rw v at (h o lp))
+-- a step of the code
+pub step_made_lem : {A : Type 0} {o : Oracle} {m : M A} {a : Place} {n : ℕ} {t : Tally} {lc lp : List Float} (s : Made) (k : Made → M A) {t' : Tally}
+    → Reached o m a n (make_step s >>= k) (place t lc lp) → MakesStep t s.evaluations t' → Reached o m a (n + 1) (k s) (place t' lc lp)
+step_made_lem s k r h = went _ k r (h.runs _ s refl _ _)
 
 -- a push that was made, by its contract: one record more, and what the list then holds fits in it
-pub point_fits : (o : Oracle) (s : BallState) (f : Phase) {t t' : Tally} {l m : List Float} {w : PointPush} → PushesPoint o t l s f w m → w ≡ Pointed t'
+pub point_fits : (o : Oracle) (s : BallState) (f : Phase) {t t' : Tally} {l m : List Float} {w : Result Unit Refusal} → PushesPoint o t l s f w t' m → w ≡ Ok tt
     → (t'.points ≡ t.points + 1) × (t'.points * point_width ≤ length l)
 point_fits o s f {m = m} h v = point_more s f (rw v at (h m))
 
-pub contact_fits : (o : Oracle) (a : BallState) (s : GroundSample) (b : BallState) {t t' : Tally} {l m : List Float} {w : Push}
-    → PushesContact t l a s b w m → w ≡ Pushed t'
+pub contact_fits : (o : Oracle) (a : BallState) (s : GroundSample) (b : BallState) {t t' : Tally} {l m : List Float} {w : Result Unit Refusal}
+    → PushesContact t l a s b w t' m → w ≡ Ok tt
     → (t'.contacts ≡ t.contacts + 1) × (t'.contacts * contact_width ≤ length l)
 contact_fits o a s b {m = m} h v = contact_more a s b (rw v at (h o m))
 

@@ -5,22 +5,20 @@ use Rattle.state.specs.State.{state_ok}
 use Rattle.state.specs.declared.BallState.{BallState}
 use Rattle.state.specs.declared.Phase.{Phase}
 use Rattle.surface.specs.declared.GroundSample.{GroundSample}
-use Rattle.look.specs.Tree.{Oracle, exec, Did, did, answer, widen_where, look_tree}
+use Rattle.look.specs.Tree.{Look, Oracle, exec, did, look_tree}
 use Rattle.look.proofs.Tree.{ends}
-use Rattle.look.specs.Rect.{spot_ok}
 use Rattle.look.specs.declared.Rect.{Rect}
-use Rattle.look.specs.declared.Look.{Look}
-use Rattle.look.specs.declared.Look.TheVariants.{Off, Saw}
 use Rattle.records.specs.Records.{Pushes}
-use Rattle.records.specs.declared.Pushed.{Pushed}
-use Rattle.records.specs.declared.Pushed.TheVariants.{Full, Done}
+use Rattle.refusal.specs.declared.Refusal.{Refusal}
+use Rattle.refusal.specs.declared.Refusal.TheVariants.{OutOfRange, PointsFull, ContactsFull}
+use Rattle.refusal.specs.Refusal.{number_of}
+use Rattle.std.specs.Prelude.{Option, Some, None, Result, Ok, Err, ok_or}
 use Rattle.tally.specs.Language.{M, Outcome, goes, stops, ran, when, point_width, contact_width, point_of, contact_of, seen_at, look}
 use Rattle.std.specs.Prelude.{if◌then◌else◌}
 use Rattle.tally.specs.Language.{test, put_point, push_point, push_contact}
-use Rattle.tally.specs.Inner.{place, RunsBy, Runs, Looks, Searches, PushesIf, with_rect, with_search, with_contacts, with_points}
+use Rattle.tally.specs.Inner.{place, RunsBy, Runs, Looks, Searches, PushesIf, outcome_by, with_rect, with_search, with_contacts, with_points}
 use Rattle.tally.specs.Lists.{stay, pushed_grown, full_grown}
 use Rattle.tally.specs.declared.Tally.{Tally}
-use Rattle.tally.specs.declared.PointPush.TheVariants.{Made as Put}
 
 -- ---- a test
 module _ {t : Tally} (s : BallState) {ok : Bool} (e : ok ≡ state_ok s) where
@@ -46,64 +44,59 @@ pub only_searches : {A : Type 0} {o : Oracle} {m : M A} {t t' : Tally} {q : Rect
     → k ≤ 200 → (lc lp : List Float) → RunsBy o m 0 200 (place t lc lp) x (place t' lc lp)
 only_searches h e i lc lp = rw e (record { same = h _; count = omega arith; work = omega (arith, i); contacts = stay _ _ _; points = stay _ _ _ })
 
--- a spot that fails its test leaves the rectangle as it was
-not_widened : (o : Oracle) (r : Rect) (x z : Float) {w : Look} {q : Rect} → did w q ≡ exec o r (look_tree x z) → w ≡ Off → q ≡ r
-unfolding exec
-not_widened o r x z {w} {q} e v = go (spot_ok x z) e
-  where
-    go : (b : Bool) → did w q ≡ did (answer b (o x z)) (widen_where b r x z) → q ≡ r
-    go true e = absurd (let f : w ≡ Saw (o x z) = ap (λ (d : Did Look). d.value) e in let z : ◌≡◌ {A = ℕ} 0 1 = cc (f, v) in omega arith)
-    go false e = ap (λ (d : Did Look). d.rect) e
-
-module _ {o : Oracle} {t : Tally} (x z : Float) {w : Look} {q : Rect} (h : did w q ≡ exec o t.rect (look_tree x z)) where
-  pub spot_seen : {s : GroundSample} {t' : Tally} → w ≡ Saw s → t' ≡ with_rect t q → (lc lp : List Float)
-      → Runs o (look x z) 0 (place t lc lp) (goes s) (place t' lc lp)
-  unfolding look exec
-  spot_seen {s} v e = only_looks (λ l. ends o t.rect (look_tree x z) (λ (w : Look). seen_at w l) h v refl) e
-
-  -- it leaves the rectangle as it was
-  pub spot_off : w ≡ Off → (lc lp : List Float) → Runs o (look x z) 0 (place t lc lp) (stops 22) (place t lc lp)
-  unfolding look exec
-  spot_off v lc lp = only_looks (λ l. rw (not_widened o t.rect x z h v) at
-      (ends o t.rect (look_tree x z) (λ (w : Look). seen_at w l) h v refl)) refl lc lp
+-- a look, by what comes of it
+pub looked : {o : Oracle} {t : Tally} (x z : Float) {w : Look} {q : Rect} → did w q ≡ exec o t.rect (look_tree x z)
+    → (lc lp : List Float) → Runs o (look x z) 0 (place t lc lp) (outcome_by (ok_or w OutOfRange)) (place (with_rect t q) lc lp)
+unfolding look exec
+looked {o} {t} x z {w = Some s} h = only_looks (λ l. ends o t.rect (look_tree x z) (λ (w : Look). seen_at w l) h refl refl) refl
+looked {o} {t} x z {w = None} h = only_looks (λ l. ends o t.rect (look_tree x z) (λ (w : Look). seen_at w l) h refl refl) refl
 
 -- ---- pushes
-module _ {t : Tally} {l m : List Float} (s : BallState) (f : Phase) (y : Float) {p : Pushed} (h : Pushes point_width t.points l (point_of s f y) p m) where
-  pub point_pushed : {n : ℕ} {t' : Tally} → length m ≡ length l → p ≡ Done n → t' ≡ with_points t n → (o : Oracle) (lc : List Float)
-      → Runs o (put_point s f y) 0 (place t lc l) (goes tt) (place t' lc m)
+module _ {t : Tally} {l m : List Float} (s : BallState) (f : Phase) (y : Float) {p : Option ℕ} (h : Pushes point_width t.points l (point_of s f y) p m) where
+  pub point_pushed : {n : ℕ} → length m ≡ length l → p ≡ Some n → (o : Oracle) (lc : List Float)
+      → Runs o (put_point s f y) 0 (place t lc l) (goes tt) (place (with_points t n) lc m)
   unfolding put_point exec
-  point_pushed n v e o lc = rw e (record {
+  point_pushed n v o lc = record {
     same = rw (← h.same, v, n);
     count = omega arith;
     work = omega arith;
     contacts = stay _ _ _;
     points = pushed_grown _ _ _ _ _ n (rw v at h.kept);
-  })
+  }
 
-  pub no_point : p ≡ Full → (o : Oracle) (lc : List Float) → Runs o (put_point s f y) 0 (place t lc l) (stops 21) (place t lc m)
+  pub no_point : p ≡ None → (o : Oracle) (lc : List Float) → Runs o (put_point s f y) 0 (place t lc l) (stops 21) (place t lc m)
   unfolding put_point exec
   no_point v o lc = let k : m ≡ l = rw v at h.kept in record
       { same = rw (← h.same, v, k); count = omega arith; work = omega arith; contacts = stay _ _ _; points = full_grown _ _ _ _ k }
 
-module _ {t : Tally} {l m : List Float} (a : BallState) (s : GroundSample) (b : BallState) {p : Pushed}
+module _ {t : Tally} {l m : List Float} (a : BallState) (s : GroundSample) (b : BallState) {p : Option ℕ}
     (h : Pushes contact_width t.contacts l (contact_of a s b) p m) where
-  pub contact_pushed : {n : ℕ} {t' : Tally} → length m ≡ length l → p ≡ Done n → t' ≡ with_contacts t n → (o : Oracle) (lp : List Float)
-      → Runs o (push_contact a s b) 0 (place t l lp) (goes tt) (place t' m lp)
+  pub contact_pushed : {n : ℕ} → length m ≡ length l → p ≡ Some n → (o : Oracle) (lp : List Float)
+      → Runs o (push_contact a s b) 0 (place t l lp) (goes tt) (place (with_contacts t n) m lp)
   unfolding push_contact exec
-  contact_pushed n v e o lp = rw e (record {
+  contact_pushed n v o lp = record {
     same = rw (← h.same, v, n);
     count = omega arith;
     work = omega arith;
     contacts = pushed_grown _ _ _ _ _ n (rw v at h.kept);
     points = stay _ _ _;
-  })
+  }
 
-  pub no_contact : p ≡ Full → (o : Oracle) (lp : List Float) → Runs o (push_contact a s b) 0 (place t l lp) (stops 20) (place t m lp)
+  pub no_contact : p ≡ None → (o : Oracle) (lp : List Float) → Runs o (push_contact a s b) 0 (place t l lp) (stops 20) (place t m lp)
   unfolding push_contact exec
   no_contact v o lp = let k : m ≡ l = rw v at h.kept in record
       { same = rw (← h.same, v, k); count = omega arith; work = omega arith; contacts = full_grown _ _ _ _ k; points = stay _ _ _ }
 
+-- ---- what a push that may find no room gives
+pub had_room : {A : Type 0} (p : Option A) (r : Refusal) {v : A} → ok_or p r ≡ Ok v → p ≡ Some v
+had_room (Some a) r e = cc e
+had_room None r e = cc e
+
+pub had_none : {A : Type 0} (p : Option A) (r : Refusal) {s : Refusal} → ok_or p r ≡ Err s → (p ≡ None) × (s ≡ r)
+had_none (Some a) r e = cc e
+had_none None r e = (refl, cc e)
+
 -- ---- no point is due
-pub not_due : (o : Oracle) (t : Tally) (l : List Float) (s : BallState) (f : Phase) → PushesIf o false t l s f (Put t) l
+pub not_due : (o : Oracle) (t : Tally) (l : List Float) (s : BallState) (f : Phase) → PushesIf o false t l s f (Ok tt) t l
 unfolding when exec
 not_due o t l s f lc = record { same = refl; count = omega arith; work = omega arith; contacts = stay _ _ _; points = stay _ _ _ }

@@ -1,18 +1,14 @@
 -- Lemmas. How the parts of a settle run one after another: the laws that the proofs of the code are made of.
-use Rattle.std.specs.Prelude.{◌≡◌, ℕ, zero, suc, ◌-◌, Bool, true, false, List, length, take, Float}
+use Rattle.std.specs.Prelude.{◌≡◌, ℕ, zero, suc, ◌-◌, Bool, true, false, List, length, take, Float, Some, None}
 use Rattle.std.proofs.Common.{arith, ap, ◌∙◌, sym}
 use Rattle.std.proofs.Math.Path.{refl}
 use Rattle.state.specs.declared.BallState.{BallState}
 use Rattle.surface.specs.declared.GroundSample.{GroundSample}
 use Rattle.state.specs.declared.Phase.{Phase}
-use Rattle.look.specs.Tree.{bind, Oracle, exec, did, Did, look_tree}
+use Rattle.look.specs.Tree.{Look, bind, Oracle, exec, did, Did, look_tree}
 use Rattle.look.proofs.Tree.{ends}
 use Rattle.look.specs.declared.Rect.{Rect}
-use Rattle.look.specs.declared.Look.{Look}
-use Rattle.look.specs.declared.Look.TheVariants.{Off, Saw}
 use Rattle.records.specs.Records.{Put, full, put, pushed, as_put, recs}
-use Rattle.records.specs.declared.Pushed.{Pushed}
-use Rattle.records.specs.declared.Pushed.TheVariants.{Full, Done}
 use Rattle.tally.specs.declared.Conditions.{Conditions}
 use Rattle.tally.specs.Inner.{over_by}
 use Rattle.state.specs.State.{state_ok}
@@ -43,12 +39,12 @@ module _ {B : Type 0} (o : Oracle) (q : Rect) (l : Log) where
   test_bad k e h = rw (← e, h)
 
   pub look_saw : (k : GroundSample → M B) (x z : Float) {w : Look} {q' : Rect} {s : GroundSample} {d : Did (Ran B)}
-      → did w q' ≡ exec o q (look_tree x z) → w ≡ Saw s → d ≡ exec o q' (k s l) → d ≡ exec o q ((look x z >>= k) l)
+      → did w q' ≡ exec o q (look_tree x z) → w ≡ Some s → d ≡ exec o q' (k s l) → d ≡ exec o q ((look x z >>= k) l)
   unfolding ◌>>=◌ look bind exec
   look_saw k x z e h p = ends o q (look_tree x z) (λ (w : Look). (seen_at w >>= k) l) e h p
 
   pub look_off : (k : GroundSample → M B) (x z : Float) {w : Look} {q' : Rect}
-      → did w q' ≡ exec o q (look_tree x z) → w ≡ Off → did (ran (stops 22) l) q' ≡ exec o q ((look x z >>= k) l)
+      → did w q' ≡ exec o q (look_tree x z) → w ≡ None → did (ran (stops 22) l) q' ≡ exec o q ((look x z >>= k) l)
   unfolding ◌>>=◌ look bind exec
   look_off k x z e h = ends o q (look_tree x z) (λ (w : Look). (seen_at w >>= k) l) e h refl
 

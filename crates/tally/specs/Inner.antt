@@ -1,5 +1,7 @@
 -- Contracts of inner functions: where a run of the code stands, and that its calls do what a part of the definition does.
-use Rattle.std.specs.Prelude.{◌≡◌, ℕ, ◌+◌, ◌-◌, ◌*◌, ◌/◌, ◌≤◌, Bool, false, List, length, Float}
+use Rattle.std.specs.Prelude.{◌≡◌, ℕ, ◌+◌, ◌-◌, ◌*◌, ◌/◌, ◌≤◌, Bool, false, List, length, Float, Result, Ok, Err}
+use Rattle.std.specs.declared.ops.ControlFlow.{ControlFlow}
+use Rattle.std.specs.declared.ops.ControlFlow.TheVariants.{Continue, Break}
 use Rattle.state.specs.declared.BallState.{BallState}
 use Rattle.state.specs.declared.Phase.{Phase}
 use Rattle.surface.specs.declared.GroundSample.{GroundSample}
@@ -7,18 +9,12 @@ use Rattle.look.specs.Rect.{no_rect}
 use Rattle.look.specs.Tree.{Made, Oracle, exec, did}
 use Rattle.look.specs.declared.Rect.{Rect}
 use Rattle.records.specs.Records.{recs, zeroed, Clean}
-use Rattle.tally.specs.Language.{M, Lent, Log, Outcome, goes, stops, ran, Pass, over, when, point_width, contact_width, evaluated, make_step, look, test}
+use Rattle.tally.specs.Language.{M, Lent, Log, Outcome, goes, stops, ran, Pass, again, over, when, point_width, contact_width, evaluated, make_step, look, test}
 use Rattle.tally.specs.declared.Conditions.{Conditions}
 use Rattle.tally.specs.Language.{push_point, push_contact}
 use Rattle.tally.specs.declared.Tally.{Tally}
-use Rattle.tally.specs.declared.Looked.{Looked}
-use Rattle.tally.specs.declared.Looked.TheVariants.{Off, Saw}
-use Rattle.tally.specs.declared.Tested.{Tested}
-use Rattle.tally.specs.declared.Tested.TheVariants.{Bad, Good}
-use Rattle.tally.specs.declared.Push.{Push}
-use Rattle.tally.specs.declared.Push.TheVariants.{Full, Made as Pushed}
-use Rattle.tally.specs.declared.PointPush.{PointPush}
-use Rattle.tally.specs.declared.PointPush.TheVariants.{Ended, Made as Pointed}
+use Rattle.refusal.specs.declared.Refusal.{Refusal}
+use Rattle.refusal.specs.Refusal.{number_of}
 
 -- ---- tallies
 
@@ -131,55 +127,41 @@ pub record MakesStep (t : Tally) (k : ℕ) (t' : Tally) : Type 0 where
   pub work : t'.evaluations ≡ t.evaluations + k
   pub runs : (o : Oracle) (s : Made) → s.evaluations ≡ k → (lc lp : List Float) → Runs o (make_step s) 1 (place t lc lp) (goes s) (place t' lc lp)
 
--- what each answers, and the tally it leaves; where a word stops the tally stays as it is
-abbrev pub saw_by : Looked → Outcome GroundSample
-saw_by Off = stops 22
-saw_by (Saw s t') = goes s
+-- what a call's result stands for: it goes on with a value, or stops by its refusal's number
+abbrev pub outcome_by : {A : Type 0} → Result A Refusal → Outcome A
+outcome_by (Ok v) = goes v
+outcome_by (Err r) = stops (number_of r)
 
-abbrev pub after_look : Tally → Looked → Tally
-after_look t Off = t
-after_look t (Saw s t') = t'
+-- what a pass gives: it goes on to another, or ends its loop
+abbrev pub pass_by : {A B : Type 0} → ControlFlow B A → Pass A B
+pass_by (Continue a) = again a
+pass_by (Break b) = over b
 
-abbrev pub passed_by : BallState → Tested → Outcome BallState
-passed_by s Bad = stops 22
-passed_by s (Good t') = goes s
+-- the same of a call's result, which may also stop
+abbrev pub passes_by : {A B : Type 0} → Result (ControlFlow B A) Refusal → Outcome (Pass A B)
+passes_by (Ok p) = goes (pass_by p)
+passes_by (Err r) = stops (number_of r)
 
-abbrev pub after_test : Tally → Tested → Tally
-after_test t Bad = t
-after_test t (Good t') = t'
+-- how a loop of passes comes back: with an end, with what it carries where a step is due that it may not make, or by a stop
+abbrev pub back_by : {A B : Type 0} → Result (ControlFlow B A) Refusal → Back A B
+back_by (Ok (Continue a)) = due_with a
+back_by (Ok (Break b)) = came (goes b)
+back_by (Err r) = came (stops (number_of r))
 
--- 20 where the list is full
-abbrev pub pushed_by : Push → Outcome Unit
-pushed_by Full = stops 20
-pushed_by (Pushed t') = goes tt
+abbrev pub LooksAt : Oracle → Tally → Float → Float → Result GroundSample Refusal → Tally → Type 0
+LooksAt o t x z r t' = (lc lp : List Float) → Runs o (look x z) 0 (place t lc lp) (outcome_by r) (place t' lc lp)
 
-abbrev pub after_push : Tally → Push → Tally
-after_push t Full = t
-after_push t (Pushed t') = t'
+abbrev pub Tests : Tally → BallState → Result BallState Refusal → Tally → Type 0
+Tests t s r t' = (o : Oracle) (lc lp : List Float) → Runs o (test s) 0 (place t lc lp) (outcome_by r) (place t' lc lp)
 
--- a push of a point looks first, so it hands back its tally where it stops too: by 22 or 21
-abbrev pub pointed_by : PointPush → Outcome Unit
-pointed_by (Ended n t') = stops n
-pointed_by (Pointed t') = goes tt
+abbrev pub PushesPoint : Oracle → Tally → List Float → BallState → Phase → Result Unit Refusal → Tally → List Float → Type 0
+PushesPoint o t l s f r t' m = (lc : List Float) → Runs o (push_point s f) 0 (place t lc l) (outcome_by r) (place t' lc m)
 
-abbrev pub after_point : PointPush → Tally
-after_point (Ended n t') = t'
-after_point (Pointed t') = t'
+abbrev pub PushesIf : Oracle → Bool → Tally → List Float → BallState → Phase → Result Unit Refusal → Tally → List Float → Type 0
+PushesIf o due t l s f r t' m = (lc : List Float) → Runs o (when due (push_point s f)) 0 (place t lc l) (outcome_by r) (place t' lc m)
 
-abbrev pub LooksAt : Oracle → Tally → Float → Float → Looked → Type 0
-LooksAt o t x z r = (lc lp : List Float) → Runs o (look x z) 0 (place t lc lp) (saw_by r) (place (after_look t r) lc lp)
-
-abbrev pub Tests : Tally → BallState → Tested → Type 0
-Tests t s r = (o : Oracle) (lc lp : List Float) → Runs o (test s) 0 (place t lc lp) (passed_by s r) (place (after_test t r) lc lp)
-
-abbrev pub PushesPoint : Oracle → Tally → List Float → BallState → Phase → PointPush → List Float → Type 0
-PushesPoint o t l s f r m = (lc : List Float) → Runs o (push_point s f) 0 (place t lc l) (pointed_by r) (place (after_point r) lc m)
-
-abbrev pub PushesIf : Oracle → Bool → Tally → List Float → BallState → Phase → PointPush → List Float → Type 0
-PushesIf o due t l s f r m = (lc : List Float) → Runs o (when due (push_point s f)) 0 (place t lc l) (pointed_by r) (place (after_point r) lc m)
-
-abbrev pub PushesContact : Tally → List Float → BallState → GroundSample → BallState → Push → List Float → Type 0
-PushesContact t l a s b r m = (o : Oracle) (lp : List Float) → Runs o (push_contact a s b) 0 (place t l lp) (pushed_by r) (place (after_push t r) m lp)
+abbrev pub PushesContact : Tally → List Float → BallState → GroundSample → BallState → Result Unit Refusal → Tally → List Float → Type 0
+PushesContact t l a s b r t' m = (o : Oracle) (lp : List Float) → Runs o (push_contact a s b) 0 (place t l lp) (outcome_by r) (place t' m lp)
 
 -- `truncate`, by the list: +0 from record n on, and n is counted
 pub record Truncates (t : Tally) (l : List Float) (n : ℕ) (t' : Tally) (m : List Float) : Type 0 where

@@ -1,5 +1,5 @@
 -- Definitions. The language in which a settle is defined: looks, tests, pushes and counted steps, over a log, with an exit by a number.
-use Rattle.std.specs.Prelude.{ℕ, zero, suc, ◌+◌, ◌-◌, Bool, true, false, List, [], ◌∷◌, length, take, pos, Float}
+use Rattle.std.specs.Prelude.{ℕ, zero, suc, ◌+◌, ◌-◌, Bool, true, false, List, [], ◌∷◌, length, take, pos, Float, Some, None}
 use Rattle.std.specs.Float.Ieee.{of_int}
 use Rattle.std.specs.Float.{binary64}
 use Rattle.number.specs.Ops.{◌⊖◌, dec}
@@ -9,9 +9,7 @@ use Rattle.state.specs.declared.Phase.{Phase}
 use Rattle.state.specs.declared.Phase.TheVariants.{Hop, Slide, Roll}
 use Rattle.search.specs.Search.{Does}
 use Rattle.state.specs.State.{state_ok}
-use Rattle.look.specs.Tree.{Made, Tree, done, step, bind, look_tree}
-use Rattle.look.specs.declared.Look.{Look}
-use Rattle.look.specs.declared.Look.TheVariants.{Off, Saw}
+use Rattle.look.specs.Tree.{Look, Made, Tree, done, step, bind, look_tree}
 use Rattle.records.specs.Records.{Records, Put, full, put, pushed}
 use Rattle.tally.specs.declared.Conditions.{Conditions}
 use Rattle.std.specs.Prelude.{if◌then◌else◌}
@@ -132,8 +130,8 @@ with_contacts rs l = record {
 
 -- 22 where the spot failed its test
 abbrev pub seen_at : Look → M GroundSample
-seen_at Off = stop_with 22
-seen_at (Saw s) = pure s
+seen_at None = stop_with 22
+seen_at (Some s) = pure s
 
 -- 21: "a push finds .. points full"
 abbrev pub point : Put → M Unit

@@ -1,7 +1,8 @@
 -- Definitions. Text as bytes in ASCII: numbers in decimal, columns, the words of a termination; and what it is to write text at a place.
 use Rattle.std.specs.Prelude.{ℕ, zero, suc, ◌+◌, ◌-◌, ◌/◌, ◌%◌, ◌≤◌, ◌≡◌, Bool, cond, List, [], ◌∷◌, ◌++◌, ltb, length, take, drop, replicate}
 use Rattle.state.specs.declared.Termination.{Termination}
-use Rattle.state.specs.declared.Termination.TheVariants.{Nothing, Rest, MaxTime, MaxImpacts}
+use Rattle.state.specs.declared.Termination.TheVariants.{Rest, MaxTime, MaxImpacts}
+use Rattle.std.specs.Prelude.{Option, Some, None}
 
 -- ---- numbers
 
@@ -31,11 +32,11 @@ right_of w t = blanks (w - length t) ++ t
 -- ---- words
 
 -- 01, "Result of a settle": "termination (`rest`, `time`, `impacts`, or `-` on a refusal)"
-unfoldable pub word_of : Termination → List ℕ
-word_of Nothing = 45 ∷ []
-word_of Rest = 114 ∷ 101 ∷ 115 ∷ 116 ∷ []
-word_of MaxTime = 116 ∷ 105 ∷ 109 ∷ 101 ∷ []
-word_of MaxImpacts = 105 ∷ 109 ∷ 112 ∷ 97 ∷ 99 ∷ 116 ∷ 115 ∷ []
+unfoldable pub word_of : Option Termination → List ℕ
+word_of None = 45 ∷ []
+word_of (Some Rest) = 114 ∷ 101 ∷ 115 ∷ 116 ∷ []
+word_of (Some MaxTime) = 116 ∷ 105 ∷ 109 ∷ 101 ∷ []
+word_of (Some MaxImpacts) = 105 ∷ 109 ∷ 112 ∷ 97 ∷ 99 ∷ 116 ∷ 115 ∷ []
 
 -- ---- what inner functions give
 

@@ -11,12 +11,9 @@ pub fn put(out: &mut [u8], at: usize, word: &[u8]) -> usize
     requires { at + length word.now ≤ length out.old }
     ensures { Adds out.old at word.now result out.new }
 {
-    let mut i = 0;
-    while i < word.len() {
-        out[at + i] = word[i];
-        i += 1;
-    }
-    at + i
+    let end = at + word.len();
+    out[at..end].copy_from_slice(word);
+    end
 }
 
 // Writes n in decimal.
@@ -30,12 +27,14 @@ pub fn put_number(out: &mut [u8], at: usize, n: u64) -> usize
 }
 
 // The word of a termination, `-` where there is none.
-pub fn put_termination(out: &mut [u8], at: usize, t: Termination) -> usize
+pub fn put_termination(out: &mut [u8], at: usize, t: Option<Termination>) -> usize
     requires { at + 7 ≤ length out.old }
     ensures { Puts 7 out.old at (word_of t) result out.new }
 {
-    match t {
-        Termination::Nothing => put(out, at, b"-"),
+    let Some(ended) = t else {
+        return put(out, at, b"-");
+    };
+    match ended {
         Termination::Rest => put(out, at, b"rest"),
         Termination::MaxTime => put(out, at, b"time"),
         Termination::MaxImpacts => put(out, at, b"impacts"),
@@ -47,12 +46,9 @@ pub fn put_blanks(out: &mut [u8], at: usize, n: usize) -> usize
     requires { at + n ≤ length out.old }
     ensures { Fills n out.old at (blanks n) result out.new }
 {
-    let mut i = 0;
-    while i < n {
-        out[at + i] = 32;
-        i += 1;
-    }
-    at + i
+    let end = at + n;
+    out[at..end].fill(b' ');
+    end
 }
 
 // Writes the word at the right end of a column of w bytes, after spaces.

@@ -1,38 +1,28 @@
 -- Lemmas: the train of impacts, up to each place where one turn of it may end.
-use Prim.Native.Nat.{ℕ, zero, suc, ◌+◌, ◌-◌, ◌*◌, ◌≤◌, zero-le}
-use mathlib.Core.Path.{◌≡◌, refl, ◌∙◌, sym}
-use mathlib.Core.Bool.{Bool, true, false, not}
-use mathlib.Core.List.{List}
-use lib.Ieee.{Float}
-use lib.ListN.{length}
-use native.Mathlib.Omega.{arith}
+use Rattle.std.proofs.Common.{ℕ, zero, suc, ◌+◌, ◌-◌, ◌*◌, ◌≤◌, ◌≡◌, refl, ◌∙◌, sym, Bool, true, false, not, List, length, arith, Option, Some, None, Result, Ok, Err}
+use Rattle.std.specs.Prelude.{Float}
 use borrow.Author.Tests.{leb-true, leb-false}
+use Prim.Native.Nat.{zero-le}
+use Rattle.refusal.specs.declared.Refusal.{Refusal}
+use Rattle.refusal.specs.Refusal.{number_of}
 use Rattle.state.specs.declared.BallState.{BallState}
 use Rattle.state.specs.declared.Phase.TheVariants.{Hop as InHop}
 use Rattle.look.specs.Tree.{bind, Oracle, exec}
 use Rattle.tally.specs.Language.{M, contact_width, stops, ◌>>=◌, ◌>>◌, push_contact}
 use Rattle.std.specs.Prelude.{if◌then◌else◌}
-use Rattle.tally.specs.Inner.{Place, place, log_at, first_tally, RunsOn, Reached}
+use Rattle.tally.specs.Inner.{Place, place, log_at, first_tally, outcome_by, RunsOn, Reached}
 use Rattle.tally.specs.declared.Conditions.{Conditions}
 use Rattle.tally.specs.declared.Tally.{Tally}
-use Rattle.tally.proofs.Reached.{begun, ended, on, came, said, went, halted, last}
+use Rattle.tally.proofs.Reached.{begun, ended, on, came, said, passes, fails, last}
+use Rattle.hop.proofs.Pass.{is_none}
 use Rattle.hop.specs.declared.Way.{Way}
 use Rattle.hop.specs.declared.Way.TheVariants.{Arrived, Late}
 use Rattle.roll.specs.declared.Ending.{Ending}
 use Rattle.ground_phase.specs.GroundPhase.{time_up, ground}
-use Rattle.ground_phase.specs.Inner.{TimesUp, ended_by, after_run}
-use Rattle.ground_phase.specs.declared.RunOut.{RunOut}
+use Rattle.ground_phase.specs.Inner.{TimesUp}
 use Rattle.strike.specs.Strike.{strike, rebounds, fly_by, fly, drop}
 use Rattle.strike.specs.Inner.{Strikes, Flies, Drops}
 use Rattle.strike.specs.declared.Struck.{Struck}
-use Rattle.strike.specs.declared.StrikeOut.{StrikeOut}
-use Rattle.strike.specs.declared.StrikeEnd.TheVariants.{Hit, Off}
-use Rattle.strike.specs.declared.Flown.{Flown}
-use Rattle.strike.specs.declared.Flown.TheVariants.{Hop, Ground}
-use Rattle.strike.specs.declared.FlyOut.{FlyOut}
-use Rattle.strike.specs.declared.FlyEnd.TheVariants.{Went, Ended as FlyEnded}
-use Rattle.strike.specs.declared.DropOut.{DropOut}
-use Rattle.strike.specs.declared.DropEnd.TheVariants.{Left, Ended as DropEnded}
 use Rattle.train.specs.Train.{last_impact, to_ground, train_from_by, train_from, train}
 use Rattle.train.specs.Inner.{LastImpacts, is_last}
 
@@ -44,8 +34,8 @@ module _ (c : Conditions) (a : BallState) where
   abbrev pub to_contact : ℕ → Struck → Way → M Ending
   to_contact n hit way = push_contact a hit.«at» hit.out >> to_way c n way
 
-  abbrev pub flown_to : ℕ → Struck → Flown → M Ending
-  flown_to n hit = λ flown. elim flown [ Ground ↦ to_ground c a hit | Hop way ↦ to_contact n hit way ]
+  abbrev pub flown_to : ℕ → Struck → Option Way → M Ending
+  flown_to n hit = λ flown. elim flown [ None ↦ to_ground c a hit | Some way ↦ to_contact n hit way ]
 
   pub body_of : Bool → ℕ → Struck → M Ending
   body_of r zero hit = if not r then to_ground c a hit else last_impact a hit
@@ -98,18 +88,18 @@ module _ (o : Oracle) (c : Conditions) (landing : BallState) (lc lp : List Float
   starts e = rw e (record { reached = begun; room = zero-le })
 
 module _ {o : Oracle} {w : M Ending} {p₀ : Place} (c : Conditions) (state : BallState) {t : Tally} {mc mp : List Float} where
-  module _ (n : ℕ) {r : StrikeOut} (here : At o w p₀ (train_from c n state) (place t mc mp)) (h : Strikes o c state t r) where
+  module _ (n : ℕ) {r : Result Struck Refusal} {t' : Tally} (here : At o w p₀ (train_from c n state) (place t mc mp)) (h : Strikes o c state t r t') where
     -- the look or the impact failed its test
-    pub struck_off : r.end ≡ Off → RunsOn o w p₀ (stops 22) (place r.tally mc mp)
-    struck_off v = on (ended (halted (strike c state) (λ hit. body_of c state (rebounds c hit) n hit) (rw (train_is c state n) at here) (rw v at (h mc mp))))
+    pub struck_off : {e : Refusal} → r ≡ Err e → RunsOn o w p₀ (stops (number_of e)) (place t' mc mp)
+    struck_off v = on (ended (fails (strike c state) (λ hit. body_of c state (rebounds c hit) n hit) (rw (train_is c state n) at here) (h mc mp) v))
 
-    pub struck : {hit : Struck} {hops : Bool} → r.end ≡ Hit hit → hops ≡ rebounds c hit → At o w p₀ (body_of c state hops n hit) (place r.tally mc mp)
-    struck v e = rw e (came (went (strike c state) (λ hit. body_of c state (rebounds c hit) n hit) (rw (train_is c state n) at here) (rw v at (h mc mp))))
+    pub struck : {hit : Struck} {hops : Bool} → r ≡ Ok hit → hops ≡ rebounds c hit → At o w p₀ (body_of c state hops n hit) (place t' mc mp)
+    struck v e = rw e (came (passes (strike c state) (λ hit. body_of c state (rebounds c hit) n hit) (rw (train_is c state n) at here) (h mc mp) v))
 
   module _ (k : ℕ) (hit : Struck) (hops : Bool) (here : At o w p₀ (body_of c state hops (c.physics.max_impacts - (k + 1)) hit) (place t mc mp)) where
     -- the last impact that max_impacts allows
-    pub ends_last : (x : RunOut) {z : Bool} {mc' mp' : List Float} → z ≡ is_last hops k c.physics.max_impacts → z ≡ true
-        → LastImpacts o state hit t mc mp x mc' mp' → RunsOn o w p₀ (ended_by x) (place (after_run x) mc' mp')
+    pub ends_last : (x : Result Ending Refusal) {z : Bool} {t' : Tally} {mc' mp' : List Float} → z ≡ is_last hops k c.physics.max_impacts → z ≡ true
+        → LastImpacts o state hit t mc mp x t' mc' mp' → RunsOn o w p₀ (outcome_by x) (place t' mc' mp')
     ends_last x e v h = on (last (rw (last_is c state hops hit k _ (sym e ∙ v)) at here) h)
 
     -- any other
@@ -119,31 +109,31 @@ module _ {o : Oracle} {w : M Ending} {p₀ : Place} (c : Conditions) (state : Ba
           (fly c hops state hit >>= flown_to c state (c.physics.max_impacts - (k + 1 + 1)) hit) here
           (fly_is c state o (place t mc mp) hit hops k c.physics.max_impacts (sym i ∙ v))
 
-      pub ends_flight : {r : FlyOut} {mp' : List Float} {i : ℕ} → Flies o c hops state hit t mp r mp' → r.how ≡ FlyEnded i
-          → RunsOn o w p₀ (stops i) (place r.tally mc mp')
-      ends_flight h e = on (ended (halted _ _ to_fly (rw e at (h mc))))
+      pub ends_flight : {r : Result (Option Way) Refusal} {t' : Tally} {mp' : List Float} {e : Refusal} → Flies o c hops state hit t mp r t' mp' → r ≡ Err e
+          → RunsOn o w p₀ (stops (number_of e)) (place t' mc mp')
+      ends_flight h e = on (ended (fails _ _ to_fly (h mc) e))
 
-      pub flown : {r : FlyOut} {mp' : List Float} {f : Flown} → Flies o c hops state hit t mp r mp' → r.how ≡ Went f
-          → At o w p₀ (flown_to c state (c.physics.max_impacts - (k + 1 + 1)) hit f) (place r.tally mc mp')
-      flown h e = came (went _ _ to_fly (rw e at (h mc)))
+      pub flown : {r : Result (Option Way) Refusal} {t' : Tally} {mp' : List Float} {f : Option Way} → Flies o c hops state hit t mp r t' mp' → r ≡ Ok f
+          → At o w p₀ (flown_to c state (c.physics.max_impacts - (k + 1 + 1)) hit f) (place t' mc mp')
+      flown h e = came (passes _ _ to_fly (h mc) e)
 
   -- not flown, or discarded
-  module _ (n : ℕ) (hit : Struck) (f : Flown) (here : At o w p₀ (flown_to c state n hit f) (place t mc mp)) where
-    module _ (v : f ≡ Ground) where
+  module _ (n : ℕ) (hit : Struck) (f : Option Way) (here : At o w p₀ (flown_to c state n hit f) (place t mc mp)) where
+    module _ (v : (way : Way) → f ≡ Some way → ⊥) where
       to_drop : At o w p₀ (drop c state hit >>= λ leave. ground c leave hit.«at») (place t mc mp)
       unfolding to_ground
-      to_drop = rw v at here
+      to_drop = let e = is_none f v in rw e at here
 
-      pub ends_drop : {r : DropOut} {mc' : List Float} {i : ℕ} → Drops c state hit t mc r mc' → r.end ≡ DropEnded i
-          → RunsOn o w p₀ (stops i) (place r.tally mc' mp)
-      ends_drop h e = on (ended (halted _ _ to_drop (rw e at (h o mp))))
+      pub ends_drop : {r : Result BallState Refusal} {t' : Tally} {mc' : List Float} {e : Refusal} → Drops c state hit t mc r t' mc' → r ≡ Err e
+          → RunsOn o w p₀ (stops (number_of e)) (place t' mc' mp)
+      ends_drop h e = on (ended (fails _ _ to_drop (h o mp) e))
 
-      pub dropped : {r : DropOut} {mc' : List Float} {leave : BallState} → Drops c state hit t mc r mc' → r.end ≡ Left leave
-          → At o w p₀ (ground c leave hit.«at») (place r.tally mc' mp)
-      dropped h e = came (went _ _ to_drop (rw e at (h o mp)))
+      pub dropped : {r : Result BallState Refusal} {t' : Tally} {mc' : List Float} {leave : BallState} → Drops c state hit t mc r t' mc' → r ≡ Ok leave
+          → At o w p₀ (ground c leave hit.«at») (place t' mc' mp)
+      dropped h e = came (passes _ _ to_drop (h o mp) e)
 
     -- flown and kept: the contact is due
-    pub kept : {way : Way} → f ≡ Hop way → At o w p₀ (to_contact c state n hit way) (place t mc mp)
+    pub kept : {way : Way} → f ≡ Some way → At o w p₀ (to_contact c state n hit way) (place t mc mp)
     kept v = rw v at here
 
 -- where the hop came to
@@ -152,6 +142,6 @@ module _ {o : Oracle} {w : M Ending} {p₀ : Place} (c : Conditions) {t : Tally}
   pub arrived : {b : BallState} → way ≡ Arrived b → At o w p₀ (train_from c n b) (place t mc mp)
   arrived v = rw v at here
 
-  pub ends_late : (x : RunOut) {b : BallState} {mp' : List Float} → way ≡ Late b → TimesUp o b InHop t mp x mp'
-      → RunsOn o w p₀ (ended_by x) (place (after_run x) mc mp')
+  pub ends_late : (x : Result Ending Refusal) {b : BallState} {t' : Tally} {mp' : List Float} → way ≡ Late b → TimesUp o b InHop t mp x t' mp'
+      → RunsOn o w p₀ (outcome_by x) (place t' mc mp')
   ends_late x v h = on (last (rw v at here) (h mc))

@@ -1,5 +1,5 @@
 -- Definitions. The train of impacts, and then the ground: ground.rs, fn settle, with the tests and the count of steps that 01 adds.
-use Rattle.std.specs.Prelude.{ℕ, zero, suc, ◌-◌, not}
+use Rattle.std.specs.Prelude.{ℕ, zero, suc, ◌-◌, not, Some, None}
 use Rattle.state.specs.declared.BallState.{BallState}
 use Rattle.state.specs.declared.Phase.TheVariants.{Hop as InHop}
 use Rattle.tally.specs.Language.{M, ◌>>=◌, ◌>>◌, pure, push_point, push_contact}
@@ -14,7 +14,6 @@ use Rattle.state.specs.declared.Termination.TheVariants.{MaxImpacts}
 use Rattle.ground_phase.specs.GroundPhase.{time_up, ground}
 use Rattle.strike.specs.Strike.{strike, rebounds, fly_by, drop}
 use Rattle.strike.specs.declared.Struck.{Struck}
-use Rattle.strike.specs.declared.Flown.TheVariants.{Hop, Ground}
 
 -- the last impact that max_impacts allows, with a rebound
 unfoldable pub last_impact : BallState → Struck → M Ending
@@ -41,8 +40,8 @@ module _ (c : Conditions) where
     hit ← strike c state
     flown ← fly_by c hop (rebounds c hit) state hit
     elim flown [
-      | Ground ↦ to_ground state hit
-      | Hop way ↦ do
+      | None ↦ to_ground state hit
+      | Some way ↦ do
         push_contact state hit.«at» hit.out
         elim way [ Arrived b ↦ train_from_by hop n b | Late b ↦ time_up b InHop ]
     ]

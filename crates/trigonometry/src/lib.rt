@@ -5,30 +5,30 @@ ghost use Rattle.std.specs.Prelude.{◌≡◌, ◌≤◌};
 ghost use Rattle.trigonometry.specs.Trig.{cosine_of, sine_of, arctangent_of, angle_of, halved, series, divisor, odd_series, one};
 ghost use Rattle.number.specs.Ops.{◌⊘◌, dec};
 
-// c = 1; k = 10 down to 1: c = 1 − (s/d)×c, where d is (2k−1)(2k) for o = 0 and (2k)(2k+1) for o = 1.
-fn series_at(s: f64, o: u64) -> f64
-    requires { o ≤ 1 }
-    ensures { result ≡ series (divisor o) 10 s one }
+// c = 1; k = 10 down to 1: c = 1 − (s/d)×c, where d is (2k−1)(2k) for O = 0 and (2k)(2k+1) for O = 1.
+fn series_at<const O: u64>(s: f64) -> f64
+    requires { O ≤ 1 }
+    ensures { result ≡ series (divisor O) 10 s one }
 {
     let mut c = 1.0;
-    let mut k = 10u64;
-    while k > 0 {
-        c = 1.0 - s / (((2 * k - 1 + o) * (2 * k + o)) as f64) * c;
-        k -= 1;
+    for k in (1..11u64).rev() {
+        c = 1.0 - s / (((2 * k - 1 + O) * (2 * k + O)) as f64) * c;
     }
     c
 }
 
+#[tactic(auto, unfolding(crate::specs::Trig::cosine_of))]
 pub fn cosine(x: f64) -> f64
     ensures { result ≡ cosine_of x }
 {
-    series_at(x * x, 0)
+    series_at::<0>(x * x)
 }
 
+#[tactic(auto, unfolding(crate::specs::Trig::sine_of))]
 pub fn sine(x: f64) -> f64
     ensures { result ≡ sine_of x }
 {
-    x * series_at(x * x, 1)
+    x * series_at::<1>(x * x)
 }
 
 // s = 1/25; m = 11 down to 0: s = 1/(2m+1) − z×s.
@@ -36,9 +36,7 @@ fn odd_series(z: f64) -> f64
     ensures { result ≡ odd_series 12 z (one ⊘ dec 25 1) }
 {
     let mut s = 1.0 / 25.0;
-    let mut m = 12u64;
-    while m > 0 {
-        m -= 1;
+    for m in (0..12u64).rev() {
         s = 1.0 / ((2 * m + 1) as f64) - z * s;
     }
     s
@@ -63,7 +61,8 @@ pub fn arctangent(y: f64, x: f64) -> f64
     ensures { result ≡ arctangent_of y x }
 {
     if y <= x {
-        return angle(y / x);
+        angle(y / x)
+    } else {
+        1.5707963267948966 - angle(x / y)
     }
-    1.5707963267948966 - angle(x / y)
 }

@@ -4,7 +4,10 @@
 ghost use Rattle.std.specs.Prelude.{◌≡◌};
 ghost use Rattle.vector.specs.Vec.{vec, vadd, vsub, vscale, vdivs, vneg, vdot, vcross, vlength, vlength_squared, vnormalize, vnormalize_or_zero, same_vec};
 
-#[derive(Clone, Copy)]
+use std::ops::{Add, Div, Mul, Neg, Sub};
+
+// `==` compares by value: +0 equals -0, and NaN equals nothing.
+#[derive(Clone, Copy, PartialEq)]
 pub struct DVec3 {
     pub x: f64,
     pub y: f64,
@@ -30,62 +33,14 @@ impl DVec3 {
         DVec3 { x, y, z }
     }
 
-    pub fn add(self, w: DVec3) -> DVec3
-        ensures { result ≡ vadd self w }
-    {
-        DVec3 {
-            x: self.x + w.x,
-            y: self.y + w.y,
-            z: self.z + w.z,
-        }
-    }
-
-    pub fn sub(self, w: DVec3) -> DVec3
-        ensures { result ≡ vsub self w }
-    {
-        DVec3 {
-            x: self.x - w.x,
-            y: self.y - w.y,
-            z: self.z - w.z,
-        }
-    }
-
-    pub fn scale(self, s: f64) -> DVec3
-        ensures { result ≡ vscale self s }
-    {
-        DVec3 {
-            x: self.x * s,
-            y: self.y * s,
-            z: self.z * s,
-        }
-    }
-
-    pub fn div(self, s: f64) -> DVec3
-        ensures { result ≡ vdivs self s }
-    {
-        DVec3 {
-            x: self.x / s,
-            y: self.y / s,
-            z: self.z / s,
-        }
-    }
-
-    pub fn neg(self) -> DVec3
-        ensures { result ≡ vneg self }
-    {
-        DVec3 {
-            x: -self.x,
-            y: -self.y,
-            z: -self.z,
-        }
-    }
-
+    #[tactic(auto, unfolding(crate::specs::Vec::vdot))]
     pub fn dot(self, w: DVec3) -> f64
         ensures { result ≡ vdot self w }
     {
         (self.x * w.x + self.y * w.y) + self.z * w.z
     }
 
+    #[tactic(auto, unfolding(crate::specs::Vec::vcross))]
     pub fn cross(self, w: DVec3) -> DVec3
         ensures { result ≡ vcross self w }
     {
@@ -96,38 +51,111 @@ impl DVec3 {
         }
     }
 
+    #[tactic(auto, unfolding(crate::specs::Vec::vlength_squared))]
     pub fn length_squared(self) -> f64
         ensures { result ≡ vlength_squared self }
     {
         self.dot(self)
     }
 
+    #[tactic(auto, unfolding(crate::specs::Vec::vlength))]
     pub fn length(self) -> f64
         ensures { result ≡ vlength self }
     {
         root::root(self.dot(self))
     }
 
+    #[tactic(auto, unfolding(crate::specs::Vec::vnormalize))]
     pub fn normalize(self) -> DVec3
         ensures { result ≡ vnormalize self }
     {
-        self.scale(1.0 / self.length())
+        self * (1.0 / self.length())
     }
 
+    #[tactic(auto, unfolding(crate::specs::Vec::vnormalize_or_zero))]
     pub fn normalize_or_zero(self) -> DVec3
         ensures { result ≡ vnormalize_or_zero self }
     {
         let rcp = 1.0 / self.length();
-        if number::is_finite(rcp) & (rcp > 0.0) {
-            return self.scale(rcp);
+        if number::is_finite(rcp) && rcp > 0.0 {
+            self * rcp
+        } else {
+            DVec3::ZERO
         }
-        DVec3::ZERO
     }
+}
 
-    // Equality by value: +0 equals -0, and NaN equals nothing.
-    pub fn same(self, w: DVec3) -> bool
-        ensures { result ≡ same_vec self w }
-    {
-        (self.x == w.x) & (self.y == w.y) & (self.z == w.z)
+impl Add for DVec3 {
+    type Output = DVec3;
+
+    ghost add_gives = { λ v w r. r ≡ vadd v w };
+
+    #[tactic(auto, unfolding(crate::specs::Vec::vadd))]
+    fn add(self, w: DVec3) -> DVec3 {
+        DVec3 {
+            x: self.x + w.x,
+            y: self.y + w.y,
+            z: self.z + w.z,
+        }
+    }
+}
+
+impl Sub for DVec3 {
+    type Output = DVec3;
+
+    ghost sub_gives = { λ v w r. r ≡ vsub v w };
+
+    #[tactic(auto, unfolding(crate::specs::Vec::vsub))]
+    fn sub(self, w: DVec3) -> DVec3 {
+        DVec3 {
+            x: self.x - w.x,
+            y: self.y - w.y,
+            z: self.z - w.z,
+        }
+    }
+}
+
+impl Mul<f64> for DVec3 {
+    type Output = DVec3;
+
+    ghost mul_gives = { λ v s r. r ≡ vscale v s };
+
+    #[tactic(auto, unfolding(crate::specs::Vec::vscale))]
+    fn mul(self, s: f64) -> DVec3 {
+        DVec3 {
+            x: self.x * s,
+            y: self.y * s,
+            z: self.z * s,
+        }
+    }
+}
+
+impl Div<f64> for DVec3 {
+    type Output = DVec3;
+
+    ghost div_gives = { λ v s r. r ≡ vdivs v s };
+
+    #[tactic(auto, unfolding(crate::specs::Vec::vdivs))]
+    fn div(self, s: f64) -> DVec3 {
+        DVec3 {
+            x: self.x / s,
+            y: self.y / s,
+            z: self.z / s,
+        }
+    }
+}
+
+impl Neg for DVec3 {
+    type Output = DVec3;
+
+    ghost neg_gives = { λ v r. r ≡ vneg v };
+
+    #[tactic(auto, unfolding(crate::specs::Vec::vneg))]
+    fn neg(self) -> DVec3 {
+        DVec3 {
+            x: -self.x,
+            y: -self.y,
+            z: -self.z,
+        }
     }
 }

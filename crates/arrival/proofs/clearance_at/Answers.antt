@@ -1,0 +1,6 @@
+use Rattle.arrival.specs.Arrival.{clearance_at}
+use Rattle.arrival.proofs.clearance_at.Goals as goal
+
+pub returns : goal.returns
+unfolding clearance_at
+returns c = rw c.at.ensures at c.clear.ensures

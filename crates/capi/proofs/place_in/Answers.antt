@@ -1,0 +1,50 @@
+use Rattle.std.proofs.Common.{refl, sym, ◌∙◌}
+use borrow.Author.Tests.{eq-eqb, ne_eqb}
+use Rattle.capi.specs.Boards.{place_door_of}
+use Rattle.capi.proofs.place_in.Goals as goal
+
+pub returns-in_default : goal.returns-in_default
+unfolding place_door_of
+returns-in_default c = rw (ne_eqb _ _ c.in_default.ensures.cases)
+
+pub returns-then-shot-ne1 : goal.returns-then-shot-ne1
+unfolding place_door_of
+returns-then-shot-ne1 c = rw (eq-eqb _ _ (c.in-Some.ensures.variant.0 refl), ne_eqb _ _ c.if-shot-ne1.true)
+
+pub returns-then-not-board_ok : goal.returns-then-not-board_ok
+unfolding place_door_of
+returns-then-not-board_ok c =
+    rw (
+      eq-eqb _ _ (c.in-Some.ensures.variant.0 refl),
+      eq-eqb _ _ c.if-shot-ne1.false,
+      ← c.in-Some.ensures.cases.same,
+      sym c.board_ok.ensures ∙ c.if-not-board_ok.true,
+    )
+
+pub returns-in-Ok : goal.returns-in-Ok
+unfolding place_door_of
+returns-in-Ok c =
+    rw (
+      eq-eqb _ _ (c.in-Some.ensures.variant.0 refl),
+      eq-eqb _ _ c.if-shot-ne1.false,
+      ← c.in-Some.ensures.cases.same,
+      sym c.board_ok.ensures ∙ c.if-not-board_ok.false,
+      ← c.board_at.ensures,
+      ← c.in-Ok.ensures,
+      c.put.ensures,
+      c.whole.ensures,
+    )
+
+pub returns-in-Err : goal.returns-in-Err
+unfolding place_door_of
+returns-in-Err c =
+    rw (
+      eq-eqb _ _ (c.in-Some.ensures.variant.0 refl),
+      eq-eqb _ _ c.if-shot-ne1.false,
+      ← c.in-Some.ensures.cases.same,
+      sym c.board_ok.ensures ∙ c.if-not-board_ok.false,
+      ← c.board_at.ensures,
+      ← c.in-Err.ensures,
+      c.put-in-Err.ensures,
+      c.whole-in-Err.ensures,
+    )

@@ -1,0 +1,2 @@
+pub mod Failed
+pub mod Numbers
