@@ -53,6 +53,7 @@ pub struct CdCl {
 }
 
 impl BallModel {
+    // Under the Rust's name, as its function.
     pub const TOUR: BallModel = BallModel {
         mass_kg: 0.04593,
         diameter_m: 0.04267,

@@ -1,7 +1,6 @@
 -- Laws of a search through landings: one try, how far a loop has come, how it ends, and what the caller sees of it.
-use Rattle.std.specs.Prelude.{ℕ, suc, ◌+◌, ◌-◌, ◌≤◌, ◌<◌, ◌&&◌, Bool, eqb, Float, length, Option, Some, None, Result, Ok, Err}
+use Rattle.std.specs.Prelude.{ℕ, suc, ◌+◌, ◌-◌, ◌≤◌, ◌<◌, ◌&&◌, Bool, eqb, Float, length, Some, None, Result, Ok, Err}
 use Rattle.std.specs.Prelude.{if◌then◌else◌}
-use Rattle.std.specs.Option.{is_some}
 use Rattle.std.specs.Result.{result_eq}
 use denote.Enum.Bare.{sameb}
 use Rattle.std.proofs.Common.{arith, ◌∙◌, sym}
@@ -140,17 +139,15 @@ module _ {sheet : List ℕ} {shot : Shot} {t : Target} {nc np : ℕ} {all left :
 
   module _ (a : Along sheet shot t nc np all left) where
     module _ (xs ys : List BallState) {kc kp : ℕ} (mc mp : List Float) (e : left ≡ xs ++ ys) (ec : kc ≡ nc) (ep : kp ≡ np) where
-      pub goes_on : (r : Option Aimed) → Seeks sheet shot t kc kp xs r mc mp → is_some r ≡ false → Along sheet shot t nc np all ys
-      goes_on None s q =
+      pub goes_on : Seeks sheet shot t kc kp xs None mc mp → Along sheet shot t nc np all ys
+      goes_on s =
           record {
             same = λ ds qs dc dp.
                 sym (ap (first_of (fits_from sheet shot t ds qs)) e ∙ first_after _ ys xs (s ds qs (dc ∙ sym ec) (dp ∙ sym ep))) ∙ a.same ds qs dc dp;
           }
-      goes_on (Some x) s q = never (sym q)
 
-      pub ends_hit : (r : Option Aimed) → Seeks sheet shot t kc kp xs r mc mp → is_some r ≡ true → Seeks sheet shot t nc np all r mc mp
-      ends_hit None s q ds qs dc dp = never q
-      ends_hit (Some x) s q ds qs dc dp =
+      pub ends_hit : (x : Aimed) → Seeks sheet shot t kc kp xs (Some x) mc mp → Seeks sheet shot t nc np all (Some x) mc mp
+      ends_hit x s ds qs dc dp =
           let k = s ds qs (dc ∙ sym ec) (dp ∙ sym ep) in
           (sym (a.same ds qs dc dp) ∙ ap (first_of (fits_from sheet shot t ds qs)) e ∙ first_in _ ys xs k.0, k.1)
 
@@ -171,15 +168,13 @@ module _ (sheet : List ℕ) (shot : Shot) (t : Target) (forward downward : ℕ) 
   turned_back r e = rw (← e, ne_eqb _ 0 (never_0 r))
 
   module _ (h : aim_refusal sheet shot t forward downward (length cs) (length ps) ≡ 0) (mc mp : List Float) where
-    pub found : (r : Option Aimed) → Seeks sheet shot t (length cs) (length ps) (grid shot.landing forward downward) r mc mp → is_some r ≡ true
-        → aim (aimed_by (Ok r)) mc mp ≡ aim_of sheet shot t forward downward cs ps
+    pub found : (a : Aimed) → Seeks sheet shot t (length cs) (length ps) (grid shot.landing forward downward) (Some a) mc mp
+        → aim (aimed_by (Ok (Some a))) mc mp ≡ aim_of sheet shot t forward downward cs ps
     unfolding aim_of
-    found None s q = never q
-    found (Some a) s q = let k = s cs ps refl refl in rw (h, k.0, ← k.1)
+    found a s = let k = s cs ps refl refl in rw (h, k.0, ← k.1)
 
-    pub nothing_found : (r : Option Aimed) → Seeks sheet shot t (length cs) (length ps) (grid shot.landing forward downward) r mc mp → is_some r ≡ false
+    pub nothing_found : Seeks sheet shot t (length cs) (length ps) (grid shot.landing forward downward) None mc mp
         → length mc ≡ length cs → length mp ≡ length ps
-        → aim (aimed_by (Ok r)) (zeroed mc 0) (zeroed mp 0) ≡ aim_of sheet shot t forward downward cs ps
+        → aim (aimed_by (Ok None)) (zeroed mc 0) (zeroed mp 0) ≡ aim_of sheet shot t forward downward cs ps
     unfolding aim_of
-    nothing_found None s q kc kp = let k = s cs ps refl refl in rw (h, k, zeroed_zeros mc kc, zeroed_zeros mp kp)
-    nothing_found (Some a) s q kc kp = never (sym q)
+    nothing_found s kc kp = let k = s cs ps refl refl in rw (h, k, zeroed_zeros mc kc, zeroed_zeros mp kp)

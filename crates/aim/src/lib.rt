@@ -1,4 +1,4 @@
-// Where a ball must land fast (02, paper 10): the first landing of a grid whose run comes to rest near a wanted spot.
+// Where a ball must land fast (02): the first landing of a grid whose run comes to rest near a wanted spot.
 #![tactic(auto)]
 
 ghost use Rattle.std.specs.Prelude.{◌≡◌, ◌≤◌, [], ◌∷◌, length};
@@ -23,6 +23,14 @@ pub struct Target {
     pub distance: f64,
 }
 
+// The landings to try: the forward speeds 1 to `forward` and, with each, the downward speeds 1 to `downward` (m/s). No part of a Target:
+// one landing is tried with a Target alone.
+#[derive(Clone, Copy)]
+pub struct Grid {
+    pub forward: u64,
+    pub downward: u64,
+}
+
 // A landing and the result of its settle.
 #[derive(Clone, Copy)]
 pub struct Aimed {
@@ -32,13 +40,13 @@ pub struct Aimed {
 
 // ---- tests
 
-fn aim_ok(target: &Target, forward: u64, downward: u64) -> bool
-    ensures { result ≡ aim_ok target.now forward downward }
+fn aim_ok(target: &Target, grid: Grid) -> bool
+    ensures { result ≡ aim_ok target.now grid.forward grid.downward }
 {
-    (1 <= forward)
-        & (forward <= 32)
-        & (1 <= downward)
-        & (downward <= 32)
+    (1 <= grid.forward)
+        & (grid.forward <= 32)
+        & (1 <= grid.downward)
+        & (grid.downward <= 32)
         & number::within(0.0, 10.0, target.distance)
         & number::within(-100000.0, 100000.0, target.x)
         & number::within(-100000.0, 100000.0, target.z)
@@ -50,15 +58,14 @@ fn aim_refusal(
     sheet: &[u8],
     shot: &Shot,
     target: &Target,
-    forward: u64,
-    downward: u64,
+    grid: Grid,
     contacts: usize,
     points: usize,
 ) -> Result<(), Refusal>
-    ensures { answer_by result ≡ aim_refusal sheet.now shot.now target.now forward downward contacts points }
+    ensures { answer_by result ≡ aim_refusal sheet.now shot.now target.now grid.forward grid.downward contacts points }
 {
     ground::refusal(sheet, shot, contacts, points)?;
-    if !aim_ok(target, forward, downward) {
+    if !aim_ok(target, grid) {
         return Err(Refusal::Aim);
     }
     Ok(())
@@ -99,7 +106,7 @@ fn fits(target: &Target, s: &Settled) -> bool
     (s.outcome == Ok(Termination::Rest)) & (dx * dx + dz * dz <= d * d)
 }
 
-// One landing.
+// One landing. That its shot passes the tests is asked, and is no type: it speaks of the course, the shot and both lengths.
 fn try_at(
     course: &Course,
     shot: &Shot,
@@ -132,16 +139,9 @@ fn try_row(
     ensures { Seeks course.now shot.now target.now (length contacts.old) (length points.old) (row shot.now.landing i downward 1) result contacts.new points.new }
 {
     for j in 1..=downward {
-        let found = try_at(
-            course,
-            shot,
-            target,
-            with_speeds(shot, i, j),
-            contacts,
-            points,
-        );
-        if found.is_some() {
-            return found;
+        let landing = with_speeds(shot, i, j);
+        if let Some(found) = try_at(course, shot, target, landing, contacts, points) {
+            return Some(found);
         }
     }
     None
@@ -152,18 +152,16 @@ fn try_grid(
     course: &Course,
     shot: &Shot,
     target: &Target,
-    forward: u64,
-    downward: u64,
+    grid: Grid,
     contacts: &mut [f64],
     points: &mut [f64],
 ) -> Option<Aimed>
-    requires { (refusal_of course.now shot.now (length contacts.old) (length points.old) ≡ 0) × (forward ≤ 32) × (downward ≤ 32) }
-    ensures { Seeks course.now shot.now target.now (length contacts.old) (length points.old) (rows shot.now.landing downward forward 1) result contacts.new points.new }
+    requires { (refusal_of course.now shot.now (length contacts.old) (length points.old) ≡ 0) × (grid.forward ≤ 32) × (grid.downward ≤ 32) }
+    ensures { Seeks course.now shot.now target.now (length contacts.old) (length points.old) (rows shot.now.landing grid.downward grid.forward 1) result contacts.new points.new }
 {
-    for i in 1..=forward {
-        let found = try_row(course, shot, target, i, downward, contacts, points);
-        if found.is_some() {
-            return found;
+    for i in 1..=grid.forward {
+        if let Some(found) = try_row(course, shot, target, i, grid.downward, contacts, points) {
+            return Some(found);
         }
     }
     None
@@ -174,29 +172,20 @@ pub fn aim(
     sheet: &[u8],
     shot: &Shot,
     target: &Target,
-    forward: u64,
-    downward: u64,
+    grid: Grid,
     contacts: &mut [f64],
     points: &mut [f64],
 ) -> Result<Option<Aimed>, Refusal>
     ensures rests { CameToRest result }
-    ensures given { given (aimed_by result) contacts.new points.new ≡ aim_of sheet.now shot.now target.now forward downward contacts.old points.old }
+    ensures given { given (aimed_by result) contacts.new points.new ≡ aim_of sheet.now shot.now target.now grid.forward grid.downward contacts.old points.old }
 {
-    aim_refusal(
-        sheet,
-        shot,
-        target,
-        forward,
-        downward,
-        contacts.len(),
-        points.len(),
-    )?;
+    aim_refusal(sheet, shot, target, grid, contacts.len(), points.len())?;
     let mut words = [0u64; index::INDEX_WORDS];
     let course = Course::indexed(sheet, &mut words);
-    let found = try_grid(&course, shot, target, forward, downward, contacts, points);
-    if found.is_none() {
+    let Some(found) = try_grid(&course, shot, target, grid, contacts, points) else {
         records::zero_from(contacts, 0);
         records::zero_from(points, 0);
-    }
-    Ok(found)
+        return Ok(None);
+    };
+    Ok(Some(found))
 }

@@ -6,7 +6,7 @@ ghost use Rattle.aim.specs.Aim.{aim as given};
 ghost use Rattle.aim.specs.Inner.{aimed_by, CameToRest};
 ghost use Rattle.aim_door.specs.AimInput.{aim_input_of, found_by, FoundAtRest, into, into_of};
 
-use aim::{Aimed, Target};
+use aim::{Aimed, Grid, Target};
 use ground::Settled;
 use refusal::Refusal;
 use state::BallState;
@@ -15,27 +15,16 @@ use state::BallState;
 fn aim_input(
     input: &[u8],
     target: &Target,
-    forward: u64,
-    downward: u64,
+    grid: Grid,
     contacts: &mut [f64],
     points: &mut [f64],
 ) -> Result<Option<Aimed>, Refusal>
     ensures rests { CameToRest result }
-    ensures given { given (aimed_by result) contacts.new points.new ≡ aim_input_of input.now target.now forward downward contacts.old points.old }
+    ensures given { given (aimed_by result) contacts.new points.new ≡ aim_input_of input.now target.now grid.forward grid.downward contacts.old points.old }
 {
-    if input.len() < 240 || 34048 < input.len() {
-        return Err(Refusal::InputLength);
-    }
-    let shot = input::shot_at(input, false);
-    aim::aim(
-        &input[240..],
-        &shot,
-        target,
-        forward,
-        downward,
-        contacts,
-        points,
-    )
+    let (head, sheet) = input::parts(input)?;
+    let shot = input::shot_of(head, false);
+    aim::aim(sheet, &shot, target, grid, contacts, points)
 }
 
 // The landing that was found; of none all +0.
@@ -66,17 +55,15 @@ fn settled_of(found: &Result<Option<Aimed>, Refusal>) -> Result<Option<Settled>,
 pub fn aim_into(
     input: &[u8],
     target: &Target,
-    forward: u64,
-    downward: u64,
+    grid: Grid,
     contacts: &mut [f64],
     points: &mut [f64],
-    landing: &mut [f64],
+    landing: &mut [f64; 10],
 ) -> Result<Option<Settled>, Refusal>
-    requires { length landing.old ≡ 10 }
     ensures rests { FoundAtRest result }
-    ensures into { into (found_by result) contacts.new points.new landing.new ≡ into_of (aim_input_of input.now target.now forward downward contacts.old points.old) landing.old }
+    ensures into { into (found_by result) contacts.new points.new landing.new ≡ into_of (aim_input_of input.now target.now grid.forward grid.downward contacts.old points.old) landing.old }
 {
-    let found = aim_input(input, target, forward, downward, contacts, points);
+    let found = aim_input(input, target, grid, contacts, points);
     fields::put_state(landing, 0, landing_of(&found));
     settled_of(&found)
 }

@@ -19,8 +19,6 @@ use vector::DVec3;
 
 const CROSSING_SUBSTEPS: u32 = 8;
 
-const ROOT_MAX_ITER: u64 = 200;
-
 // One step of a hop, of length h from a to b.
 #[derive(Clone, Copy)]
 pub struct Arc {
@@ -131,8 +129,9 @@ fn first_crossing(
 
 // ---- the root in the bracket
 
-// Each evaluation is counted as it is made, one stopped by its spot's test among them. Room for 200 more is asked here and of the two callers, and is
-// no ghost field of Tally: after the search it need not hold.
+// Each evaluation is counted as it is made, one stopped by its spot's test among them. Room for 200 more is asked here, of the caller and of its caller, and is
+// no ghost field of Tally: after the search it need not hold. The slide has this loop too: one for both would be handed the evaluation as a closure that
+// looks, counts and may stop, and would have to say of it all that `find_root` says here, so it would be longer than the two.
 fn find_root(
     course: &Course,
     tally: &mut Tally,
@@ -144,7 +143,7 @@ fn find_root(
     ensures { Finds (course_of course.now) (find_root in_m (evaluate (clearance_at arc.now)) b guess) 200 tally.old result tally.new }
 {
     let mut s = search::start_search(b, guess);
-    for _made in 0..ROOT_MAX_ITER {
+    for _made in 0..search::ROOT_MAX_ITER {
         let x = search::in_bracket(s);
         tally.evaluations += 1;
         let fx = clearance_at(course, tally, arc, x)?;
@@ -181,12 +180,7 @@ fn guess_in(arc: &Arc, b: Bracket, end_height: f64) -> f64
 fn ending_at(b: Bracket, f_hi: f64) -> Bracket
     ensures { result ≡ ending_at b f_hi }
 {
-    Bracket {
-        lo: b.lo,
-        f_lo: b.f_lo,
-        hi: b.hi,
-        f_hi,
-    }
+    Bracket { f_hi, ..b }
 }
 
 // The time into the step of the crossing in the bracket.
@@ -208,11 +202,7 @@ fn place(s: State, time: f64, height: f64, spin: DVec3) -> BallState
 {
     BallState {
         time,
-        pos: DVec3 {
-            x: s.pos.x,
-            y: height,
-            z: s.pos.z,
-        },
+        pos: DVec3 { y: height, ..s.pos },
         vel: s.vel,
         spin,
     }

@@ -3,7 +3,7 @@
 
 ghost use Rattle.std.specs.Prelude.{◌≡◌, ◌<◌, length, position};
 ghost use Rattle.refusal.specs.Refusal.{answer_by};
-ghost use Rattle.board.specs.Rules.{key_of, moving, by_first, cleaner, is_before, holds, one, used, answer_of};
+ghost use Rattle.board.specs.Rules.{key_of, moving, is_before, holds, one, used, answer_of};
 ghost use Rattle.board.specs.Board.{listing, answered, new_by, new_of, empty_board, with_entry, enter_of, placed_by, place_of};
 
 use refusal::Refusal;
@@ -29,7 +29,7 @@ pub struct Board {
     pub entries: [Entry; 256],
 }
 
-// 0 at rest, 1 still moving.
+// 0 at rest, 1 still moving: a key to sort by, and no code.
 #[tactic(auto, unfolding(crate::specs::Rules::moving))]
 fn moving(t: Option<Termination>) -> u32
     ensures { result ≡ moving t }
@@ -38,14 +38,6 @@ fn moving(t: Option<Termination>) -> u32
         Some(Termination::Rest) => 0,
         _ => 1,
     }
-}
-
-// Of two at one distance: fewer contacts first, then the lower shot number.
-#[tactic(auto, unfolding(crate::specs::Rules::by_first))]
-fn cleaner(e: &Entry, f: &Entry) -> bool
-    ensures { result ≡ by_first cleaner e.now f.now }
-{
-    (e.contacts, e.shot) < (f.contacts, f.shot)
 }
 
 // Whether a shot number is on the list.
@@ -110,16 +102,19 @@ impl Board {
         dx * dx + dz * dz
     }
 
-    // Whether e is listed before f. No Ord: keys are doubles.
+    // By what an entry is listed: those at rest first, then the least key, fewer contacts, the lower shot number.
+    fn rank(&self, e: &Entry) -> (u32, f64, u32, u32)
+        ensures { result ≡ (moving e.now.termination, key_of self.now.pin_x self.now.pin_z e.now, e.now.contacts, e.now.shot) }
+    {
+        (moving(e.termination), self.key(e), e.contacts, e.shot)
+    }
+
+    // Whether e is listed before f: by the order of tuples. No Ord, since keys are doubles.
     #[tactic(auto, unfolding(crate::specs::Rules::is_before, crate::specs::Rules::by_first))]
     fn is_before(&self, e: &Entry, f: &Entry) -> bool
         ensures { result ≡ is_before self.now.pin_x self.now.pin_z e.now f.now }
     {
-        let m = moving(e.termination);
-        let n = moving(f.termination);
-        let a = self.key(e);
-        let b = self.key(f);
-        (m < n) | ((m == n) & ((a < b) | ((a == b) & cleaner(e, f))))
+        self.rank(e) < self.rank(f)
     }
 
     // The place of the first entry that e is listed before.

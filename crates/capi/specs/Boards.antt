@@ -7,10 +7,15 @@ use Rattle.board.specs.Answers.{Entered}
 use Rattle.layout.specs.Layout.{board_length, board_ok, board_at, board_fields}
 use Rattle.layout.specs.Sent.{Sent, sent_of}
 use Rattle.capi.specs.Doors.{Door, door}
+use Rattle.capi.specs.declared.SentEntry.{SentEntry}
 
 -- dimple_board_new: 0 or 9, with the board that `Board::new` gives
 unfoldable pub new_door_of : Float → Float → List Float → Door
 new_door_of px pz l = cond (eqb (length l) board_length) (let e = new_of px pz in door e.answer (board_fields e.board)) (door 100 l)
+
+-- the code's entry
+abbrev pub sent_by : SentEntry → Sent
+sent_by s = record { bay = s.bay; shot = s.shot; termination = s.termination; contacts = s.contacts; x = s.x; z = s.z }
 
 -- the board is changed on answer 0 alone
 unfoldable pub entered : Entered → List Float → Door

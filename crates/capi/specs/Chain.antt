@@ -14,7 +14,8 @@ use Rattle.board.specs.Rules.{answer_of}
 use Rattle.board.specs.Board.{listing, answered, given, new_of, enter_of, place_of}
 use Rattle.board.proofs.Listing.{enter_answers, place_answers}
 use Rattle.board.specs.declared.Board.{Board}
-use Rattle.layout.specs.Layout.{board_length, number_of, termination_of, board_fields}
+use Rattle.state.specs.Numbers.{termination_number}
+use Rattle.layout.specs.Layout.{board_length, termination_of, board_fields}
 use Rattle.layout.specs.RoundTrip.{Ended, Numbers, Held, written_length, written_ok, written_back, new_held, enter_held}
 use Rattle.capi.specs.Doors.{Door, door}
 use Rattle.layout.specs.Sent.{Sent, sent_entry, is_end, sent_of}
@@ -67,7 +68,7 @@ module _ (b : Board) (h : Held b) where
 
 -- such a board stays one
 is_end_lem : (n : ℕ) → T (leb 1 n) → T (leb n 3) → Ended (termination_of n)
-unfolding termination_of number_of
+unfolding termination_of termination_number
 is_end_lem zero h k = absurd h
 is_end_lem (suc zero) h k = omega arith
 is_end_lem (suc (suc zero)) h k = omega arith

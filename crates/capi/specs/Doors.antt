@@ -1,9 +1,9 @@
 -- Definitions. What each exported function gives: its answer and all that it was lent (include/dimple.h).
 use Rattle.std.specs.Prelude.{ℕ, Bool, true, false, ◌&&◌, cond, List, [], ◌∷◌, ◌++◌, leb, eqb, length, Float}
 use Rattle.number.specs.Ops.{dec}
-use Rattle.look.specs.declared.Rect.{Rect}
+use Rattle.look.specs.Rect.{sides_of}
 use Rattle.course.specs.Sheet.{height_of}
-use Rattle.ground.specs.Settle.{termination_number}
+use Rattle.state.specs.Numbers.{termination_number}
 use Rattle.ground.specs.Step.{step_of, impact_answer}
 use Rattle.ground.specs.Settle.{Settled}
 use Rattle.ground.specs.Step.{StepOut}
@@ -11,15 +11,11 @@ use Rattle.ground.specs.Step.{ImpactOut}
 use Rattle.fields.specs.Fields.{whole_of, double_at, state_at, ball_at, state_fields, written}
 use Rattle.input.specs.Input.{settle_input_by}
 
--- least x, greatest x, least z, greatest z
-abbrev pub rect_fields : Rect → List Float
-rect_fields r = r.x_lo ∷ r.x_hi ∷ r.z_lo ∷ r.z_hi ∷ []
-
 -- answer; termination (0 none, 1 rest, 2 time, 3 impacts); contacts, points, steps; the final state (10); the rectangle (4); evaluations
 abbrev pub result_fields : Settled → List Float
 result_fields s =
     whole_of s.answer ∷ whole_of (termination_number s.termination) ∷ whole_of s.contacts ∷ whole_of s.points ∷ whole_of s.steps
-    ∷ (state_fields s.rest ++ (rect_fields s.rect ++ (whole_of s.evaluations ∷ [])))
+    ∷ (state_fields s.rest ++ (sides_of s.rect ++ (whole_of s.evaluations ∷ [])))
 
 -- how many they are
 abbrev pub result_length : ℕ

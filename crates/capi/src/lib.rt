@@ -2,7 +2,7 @@
 // these functions' own answers.
 #![tactic(auto)]
 
-ghost use Rattle.std.specs.Prelude.{◌≡◌, [], ◌∷◌, length};
+ghost use Rattle.std.specs.Prelude.{◌≡◌, [], ◌∷◌};
 ghost use Rattle.ground.specs.Settle.{told_by};
 ghost use Rattle.ground.specs.Step.{stepped_by, struck_by};
 ghost use Rattle.fields.specs.Fields.{written};
@@ -10,7 +10,7 @@ ghost use Rattle.course.specs.Sheet.{height_by};
 ghost use Rattle.card.specs.Card.{card_by};
 ghost use Rattle.aim_door.specs.AimInput.{found_by};
 ghost use Rattle.state.specs.declared.BallState.{BallState};
-ghost use Rattle.capi.specs.Doors.{state_length, reported, answered as with_answer, stepped, struck, door, settle_door, settle_door_of, settle_fading_door_of, step_door_of, impact_door_of, height_door_of};
+ghost use Rattle.capi.specs.Doors.{reported, answered as with_answer, stepped, struck, door, settle_door, settle_door_by, settle_door_of, settle_fading_door_of, step_door_of, impact_door_of, height_door_of};
 ghost use Rattle.capi.specs.Aims.{aim_door, aim_door_of};
 ghost use Rattle.capi.specs.Cards.{card_door, card_door_of};
 ghost use Rattle.capi.specs.Listens.{total_fields, listen_door, listen_door_of};
@@ -18,10 +18,10 @@ ghost use Rattle.listen.specs.Listen.{heard_by};
 ghost use Rattle.layout.specs.Layout.{board_at};
 ghost use Rattle.refusal.specs.Refusal.{answer_by};
 ghost use Rattle.layout.specs.Sent.{sent_of};
-ghost use Rattle.capi.specs.Boards.{entered, new_door_of, enter_door_of, place_door_of};
+ghost use Rattle.capi.specs.Boards.{sent_by, entered, new_door_of, enter_door_of, place_door_of};
 ghost use Rattle.shelf_layout.specs.Doors.{answered, shelf_new_door_of, shelf_save_door_of, shelf_return_door_of, shelf_drop_door_of};
 
-use aim::Target;
+use aim::{Grid, Target};
 use board::{Board, Entry};
 use card::ShotCard;
 use ground::{Moved, Settled};
@@ -44,9 +44,10 @@ fn write_result(res: &mut [f64], answer: u32, s: &Settled)
     let pos = s.rest.pos;
     let vel = s.rest.vel;
     let spin = s.rest.spin;
+    let rect = s.rect.sides();
     let rec = [
         fields::whole(answer as u64),
-        fields::whole(ground::termination_number(s.outcome.ok())),
+        fields::whole(u64::from(state::termination_number(s.outcome.ok()))),
         fields::whole(s.contacts as u64),
         fields::whole(s.points as u64),
         fields::whole(s.steps),
@@ -60,13 +61,29 @@ fn write_result(res: &mut [f64], answer: u32, s: &Settled)
         spin.x,
         spin.y,
         spin.z,
-        s.rect.x_lo,
-        s.rect.x_hi,
-        s.rect.z_lo,
-        s.rect.z_hi,
+        rect[0],
+        rect[1],
+        rect[2],
+        rect[3],
         fields::whole(s.evaluations),
     ];
     fields::put(res, 0, &rec);
+}
+
+// The settle of the input, with the spin held or fading, and its result.
+fn settle_into(
+    input: &[u8],
+    fading: bool,
+    contacts: &mut [f64],
+    points: &mut [f64],
+    res: &mut [f64],
+) -> u32
+    ensures { settle_door result contacts.new points.new res.new ≡ settle_door_by fading input.now contacts.old points.old res.old }
+{
+    let s = input::settle_input(input, fading, contacts, points);
+    let answer = refusal::answer(&s.outcome);
+    write_result(res, answer, &s);
+    answer
 }
 
 #[unsafe(no_mangle)]
@@ -78,10 +95,7 @@ pub extern "C" fn dimple_settle(
 ) -> u32
     ensures { settle_door result contacts.new points.new res.new ≡ settle_door_of input.now contacts.old points.old res.old }
 {
-    let s = input::settle_input(input, false, contacts, points);
-    let answer = refusal::answer(&s.outcome);
-    write_result(res, answer, &s);
-    answer
+    settle_into(input, false, contacts, points, res)
 }
 
 #[unsafe(no_mangle)]
@@ -93,13 +107,10 @@ pub extern "C" fn dimple_settle_fading(
 ) -> u32
     ensures { settle_door result contacts.new points.new res.new ≡ settle_fading_door_of input.now contacts.old points.old res.old }
 {
-    let s = input::settle_input(input, true, contacts, points);
-    let answer = refusal::answer(&s.outcome);
-    write_result(res, answer, &s);
-    answer
+    settle_into(input, true, contacts, points, res)
 }
 
-// The settle's answer, or 30.
+// The settle's answer, or 30: a number, since it leaves for C.
 fn card_answer(card: &ShotCard) -> u32
     ensures { result ≡ (card_by card.now).answer }
 {
@@ -125,7 +136,7 @@ pub extern "C" fn dimple_card(
     answer
 }
 
-// The answer of the settle that was found; 0 where none was.
+// The answer of the settle that was found, 0 where none was: a number, since it leaves for C.
 fn aim_answer(found: &Result<Option<Settled>, Refusal>) -> u32
     ensures { result ≡ (found_by found.now).answer }
 {
@@ -136,7 +147,7 @@ fn aim_answer(found: &Result<Option<Settled>, Refusal>) -> u32
     }
 }
 
-// That settle; of none every number is +0.
+// That settle; of none every number is +0: what a refusal hands back, with another answer written.
 fn settled_of(found: &Result<Option<Settled>, Refusal>) -> Settled
     ensures { with_answer (found_by found.now).answer (told_by result) ≡ found_by found.now }
 {
@@ -162,15 +173,16 @@ pub extern "C" fn dimple_aim(
 ) -> u32
     ensures { aim_door result contacts.new points.new res.new landing.new ≡ aim_door_of input.now contacts.old points.old spot_x spot_z distance forward downward res.old landing.old }
 {
-    if landing.len() != 10 {
-        return 100;
-    }
+    let Some(landing) = landing.as_mut_array::<10>() else {
+        return u32::from(Refusal::LentLength);
+    };
     let target = Target {
         x: spot_x,
         z: spot_z,
         distance,
     };
-    let found = aim_door::aim_into(input, &target, forward, downward, contacts, points, landing);
+    let grid = Grid { forward, downward };
+    let found = aim_door::aim_into(input, &target, grid, contacts, points, landing);
     let answer = aim_answer(&found);
     write_result(res, answer, &settled_of(&found));
     answer
@@ -201,23 +213,22 @@ pub extern "C" fn dimple_listen(
 ) -> u32
     ensures { listen_door result marks.new totals.new ≡ listen_door_of heard.now contacts.now count tolerance marks.old totals.old }
 {
-    if totals.len() != 3 {
-        return 100;
-    }
+    let Some(totals) = totals.as_mut_array::<3>() else {
+        return u32::from(Refusal::LentLength);
+    };
     let heard = listen::listen(heard, contacts, count, tolerance, marks);
     fields::put(totals, 0, &total_numbers(&heard));
     refusal::answer(&heard)
 }
 
 // The new state and its phase; on a refusal the phase alone, 0.
-fn write_step(state: &mut [f64], moved: &Result<Moved, Refusal>)
-    requires { length state.old ≡ state_length }
+fn write_step(state: &mut [f64; STATE_LENGTH], moved: &Result<Moved, Refusal>)
     ensures { (given : BallState) → door (answer_by moved.now) state.new ≡ stepped (stepped_by given moved.now) state.old }
 {
     match moved {
         Ok(m) => {
             let s = m.state;
-            let phase = fields::whole(roll::whole_phase(m.phase) as u64);
+            let phase = fields::whole(u64::from(u8::from(m.phase)));
             let rec = [
                 s.time, s.pos.x, s.pos.y, s.pos.z, s.vel.x, s.vel.y, s.vel.z, s.spin.x, s.spin.y, s
                     .spin
@@ -233,15 +244,15 @@ fn write_step(state: &mut [f64], moved: &Result<Moved, Refusal>)
 pub extern "C" fn dimple_step(sheet: &[u8], physics: &[f64], ball: &[f64], state: &mut [f64]) -> u32
     ensures { door result state.new ≡ step_door_of sheet.now physics.now ball.now state.old }
 {
-    if physics.len() != 3 {
-        return 100;
-    }
-    if ball.len() != 12 {
-        return 100;
-    }
-    if state.len() != STATE_LENGTH {
-        return 100;
-    }
+    let Some(physics) = physics.as_array::<3>() else {
+        return u32::from(Refusal::LentLength);
+    };
+    let Some(ball) = ball.as_array::<12>() else {
+        return u32::from(Refusal::LentLength);
+    };
+    let Some(state) = state.as_mut_array() else {
+        return u32::from(Refusal::LentLength);
+    };
     let s = fields::state_at(state, 0);
     let b = fields::ball_at(ball, 0);
     let moved = ground::step(sheet, physics[0], physics[1], physics[2], &b, &s);
@@ -250,8 +261,7 @@ pub extern "C" fn dimple_step(sheet: &[u8], physics: &[f64], ball: &[f64], state
 }
 
 // The new state; on a refusal nothing.
-fn write_impact(state: &mut [f64], out: &Result<BallState, Refusal>)
-    requires { length state.old ≡ 10 }
+fn write_impact(state: &mut [f64; 10], out: &Result<BallState, Refusal>)
     ensures { (given : BallState) → door (answer_by out.now) state.new ≡ struck (struck_by given out.now) state.old }
 {
     match out {
@@ -264,12 +274,12 @@ fn write_impact(state: &mut [f64], out: &Result<BallState, Refusal>)
 pub extern "C" fn dimple_impact(sheet: &[u8], ball: &[f64], state: &mut [f64]) -> u32
     ensures { door result state.new ≡ impact_door_of sheet.now ball.now state.old }
 {
-    if ball.len() != 12 {
-        return 100;
-    }
-    if state.len() != 10 {
-        return 100;
-    }
+    let Some(ball) = ball.as_array::<12>() else {
+        return u32::from(Refusal::LentLength);
+    };
+    let Some(state) = state.as_mut_array() else {
+        return u32::from(Refusal::LentLength);
+    };
     let s = fields::state_at(state, 0);
     let b = fields::ball_at(ball, 0);
     let out = ground::impact(sheet, &b, &s);
@@ -278,8 +288,7 @@ pub extern "C" fn dimple_impact(sheet: &[u8], ball: &[f64], state: &mut [f64]) -
 }
 
 // The height, +0 where there is none.
-fn write_height(height: &mut [f64], found: &Result<f64, Refusal>)
-    requires { length height.old ≡ 1 }
+fn write_height(height: &mut [f64; 1], found: &Result<f64, Refusal>)
     ensures { height.new ≡ written height.old 0 ((height_by found.now).height ∷ []) }
 {
     match found {
@@ -292,9 +301,9 @@ fn write_height(height: &mut [f64], found: &Result<f64, Refusal>)
 pub extern "C" fn dimple_height(sheet: &[u8], x: f64, z: f64, height: &mut [f64]) -> u32
     ensures { door result height.new ≡ height_door_of sheet.now x z height.old }
 {
-    if height.len() != 1 {
-        return 100;
-    }
+    let Some(height) = height.as_mut_array() else {
+        return u32::from(Refusal::LentLength);
+    };
     let h = course::height(sheet, x, z);
     write_height(height, &h);
     refusal::answer(&h)
@@ -328,48 +337,38 @@ pub extern "C" fn dimple_board_new(pin_x: f64, pin_z: f64, board: &mut [f64]) ->
     refusal::answer(&new_in(pin_x, pin_z, board))
 }
 
-// One entry more on a board that the doubles are; NoTermination for a number that is no termination's. Where it is refused, nothing is written.
-fn enter_sent(
-    board: &mut [f64; layout::BOARD_LENGTH],
+// An entry as numbers, as dimple_board_enter is handed it.
+#[derive(Clone, Copy)]
+struct SentEntry {
     bay: u32,
     shot: u32,
     termination: u32,
     contacts: u32,
     x: f64,
     z: f64,
-) -> Result<(), Refusal>
-    ensures { door (answer_by result) board.new
-        ≡ entered
-        (sent_of (board_at board.old)
-        (record { bay = bay; shot = shot; termination = termination; contacts = contacts; x = x; z = z }))
-        board.old }
+}
+
+// One entry more on a board that the doubles are; NoTermination for a number that is no termination's. Where it is refused, nothing is written.
+fn enter_sent(board: &mut [f64; layout::BOARD_LENGTH], sent: SentEntry) -> Result<(), Refusal>
+    ensures { door (answer_by result) board.new ≡ entered (sent_of (board_at board.old) (sent_by sent)) board.old }
 {
-    let termination = layout::end_of(termination)?;
+    let termination = layout::end_of(sent.termination)?;
     let mut b = layout::board_at(board);
     b.enter(Entry {
-        shot,
-        bay,
+        shot: sent.shot,
+        bay: sent.bay,
         termination,
-        contacts,
-        x,
-        z,
+        contacts: sent.contacts,
+        x: sent.x,
+        z: sent.z,
     })?;
     layout::write_board(board, &b);
     Ok(())
 }
 
 // Tests the length and the doubles, and enters.
-fn enter_in(
-    board: &mut [f64],
-    bay: u32,
-    shot: u32,
-    termination: u32,
-    contacts: u32,
-    x: f64,
-    z: f64,
-) -> Result<(), Refusal>
-    ensures { door (answer_by result) board.new
-        ≡ enter_door_of board.old (record { bay = bay; shot = shot; termination = termination; contacts = contacts; x = x; z = z }) }
+fn enter_in(board: &mut [f64], sent: SentEntry) -> Result<(), Refusal>
+    ensures { door (answer_by result) board.new ≡ enter_door_of board.old (sent_by sent) }
 {
     let Some(list) = board.as_mut_array() else {
         return Err(Refusal::LentLength);
@@ -377,7 +376,7 @@ fn enter_in(
     if !layout::board_ok(list) {
         return Err(Refusal::NotHeld);
     }
-    enter_sent(list, bay, shot, termination, contacts, x, z)
+    enter_sent(list, sent)
 }
 
 #[unsafe(no_mangle)]
@@ -393,7 +392,15 @@ pub extern "C" fn dimple_board_enter(
     ensures { door result board.new
         ≡ enter_door_of board.old (record { bay = bay; shot = shot; termination = termination; contacts = contacts; x = x; z = z }) }
 {
-    refusal::answer(&enter_in(board, bay, shot, termination, contacts, x, z))
+    let sent = SentEntry {
+        bay,
+        shot,
+        termination,
+        contacts,
+        x,
+        z,
+    };
+    refusal::answer(&enter_in(board, sent))
 }
 
 // The shot's number at the place; 0 where there is none.
@@ -403,9 +410,9 @@ fn place_in(board: &[f64], place: u64, shot: &mut [f64]) -> Result<(), Refusal>
     let Some(list) = board.as_array() else {
         return Err(Refusal::LentLength);
     };
-    if shot.len() != 1 {
+    let Some(shot) = shot.as_mut_array::<1>() else {
         return Err(Refusal::LentLength);
-    }
+    };
     if !layout::board_ok(list) {
         return Err(Refusal::NotHeld);
     }

@@ -12,7 +12,7 @@ use Rattle.std.proofs.Math.ListN.{length, length-append, get_or-append}
 use Rattle.std.proofs.Math.Seq.{drop_at}
 use borrow.Author.Tests.{le-leb, ne_eqb}
 use Rattle.look.proofs.Within.{AgreeIn}
-use Rattle.look.specs.declared.Rect.{Rect}
+use Rattle.look.specs.Rect.{Rect}
 use Rattle.octets.specs.Octets.{little}
 use Rattle.course.specs.Sheet.{Accepted, course_of}
 use Rattle.ground.specs.Settle.{Result, result_of, settle_of}

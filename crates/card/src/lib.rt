@@ -43,7 +43,7 @@ fn put_contact(page: &mut [u8], at: usize, contacts: &[f64], i: usize) -> usize
     text::put(page, c, b"  \n")
 }
 
-// The lines of the first n contacts.
+// The lines of the first n contacts: the list that C lends has room for more.
 fn put_contacts(page: &mut [u8], at: usize, contacts: &[f64], n: usize) -> usize
     requires { (at + 60 * n ≤ length page.old) × Printable contacts.now n }
     ensures { Fills (60 * n) page.old at (lines_of contacts.now n) result page.new }

@@ -109,7 +109,7 @@ pub fn is_onto(y: f64, height: f64, normal: DVec3, prev_normal: DVec3) -> bool
     (normal == prev_normal) & (y == height)
 }
 
-// Puts a ball that has stepped across the ground back onto it.
+// Puts a ball that has stepped across the ground back onto it. `rolling` is the Rust's parameter.
 #[tactic(auto, using(number::proofs::Steps::steps), unfolding(crate::specs::Contact::onto_of))]
 pub fn onto_surface(
     state: BallState,
@@ -126,11 +126,9 @@ pub fn onto_surface(
     let n = at.normal.normalize();
     let vel = along(state.vel, n);
     BallState {
-        time: state.time,
         pos: DVec3 {
-            x: state.pos.x,
             y: at.height,
-            z: state.pos.z,
+            ..state.pos
         },
         vel,
         spin: if rolling {
@@ -138,6 +136,7 @@ pub fn onto_surface(
         } else {
             state.spin
         },
+        ..state
     }
 }
 

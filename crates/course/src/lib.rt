@@ -63,6 +63,7 @@ fn sample_of(sheet: &Sheet, found: Option<usize>, x: f64, z: f64) -> GroundSampl
     requires { FindsPatch sheet.now x z found }
     ensures { result ≡ course_of sheet.now x z }
 {
+    // For the proof: what the sheet's type knows, that there is a surface.
     let _count = sheet.surfaces();
     match found {
         Some(i) => patch_sample(sheet, i, x, z),
@@ -91,7 +92,7 @@ impl<'a> Model for Course<'a> {
 }
 
 impl<'a> Course<'a> {
-    // With an index, made in the given words.
+    // With an index, made in the given words. Of bytes that passed the tests 1 to 3: a settle makes them with the others.
     pub fn indexed(bytes: &'a [u8], words: &'a mut Words) -> Course<'a>
         requires { Accepted bytes.now }
         ensures { result ≡ bytes.now }
@@ -105,14 +106,10 @@ impl<'a> Course<'a> {
     }
 
     // With no index, for a call that makes one or two looks.
-    pub fn scanned(bytes: &'a [u8]) -> Course<'a>
-        requires { Accepted bytes.now }
-        ensures { result ≡ bytes.now }
+    pub fn scanned(sheet: Sheet<'a>) -> Course<'a>
+        ensures { result ≡ sheet.entry }
     {
-        Course {
-            sheet: Sheet::accepted(bytes),
-            index: None,
-        }
+        Course { sheet, index: None }
     }
 
     // The first patch with the spot in it, by the index or by trying each.
@@ -131,7 +128,8 @@ impl<'a> Course<'a> {
         sample_of(&self.sheet, self.find(x, z), x, z)
     }
 
-    // A look: the spot is tested, and one that passes widens the rectangle.
+    // A look: the spot is tested, and one that passes widens the rectangle. x and z are two numbers, as in the Rust's `sample`: a spot of its own would
+    // be made at each look and taken apart at once.
     pub fn look(&self, rect: &mut Rect, x: f64, z: f64) -> Option<GroundSample>
         ensures { did result rect.new ≡ exec (course_of self.now) rect.old (look_tree x z) }
     {
@@ -148,9 +146,9 @@ impl<'a> Course<'a> {
 pub fn height(bytes: &[u8], x: f64, z: f64) -> Result<f64, Refusal>
     ensures { height_by result ≡ height_of bytes.now x z }
 {
-    sheet::check_sheet(bytes)?;
+    let sheet = Sheet::checked(bytes)?;
     if !look::spot_ok(x, z) {
         return Err(Refusal::HeightSpot);
     }
-    Ok(Course::scanned(bytes).sample(x, z).height)
+    Ok(Course::scanned(sheet).sample(x, z).height)
 }

@@ -32,6 +32,7 @@ pub fn is_whole(x: f64, least: u32, most: u32) -> bool
     (x == whole(u64::from(n))) & (least <= n) & (n <= most)
 }
 
+// The readers take the place where a record begins: what C lends holds several, one after another.
 #[tactic(auto, unfolding(crate::specs::Fields::vec_at))]
 pub fn vec_at(s: &[f64], o: usize) -> DVec3
     requires { o + 3 ≤ length s.now }

@@ -20,7 +20,8 @@ pub fn accel(ball: BallModel, aero: AeroParams, air_density: f64, vel: DVec3) ->
     GRAVITY
 }
 
-// The state a time h after the state s at the time t.
+// The state a time h after the state s at the time t, which is the Rust's parameter and unused. Not rk4's step over the two together: the flight adds up its stages before it scales them, and
+// another order is other bits.
 #[tactic(auto, using(number::proofs::Steps::steps), unfolding(rk4::specs::Rk4::step_of, rk4::specs::Rk4::moved, rk4::specs::Rk4::weighted))]
 pub fn step(ball: BallModel, aero: AeroParams, air_density: f64, s: State, t: f64, h: f64) -> State
     ensures { result ≡ flight_step ball aero air_density s t h }

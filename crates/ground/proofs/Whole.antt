@@ -1,10 +1,10 @@
 -- Lemmas: from the tests and the run to what the caller sees.
-use Rattle.std.proofs.Common.{ℕ, ◌≡◌, ◌≤◌, Bool, true, false, not, List, [], length, arith, refl, ap, ◌∙◌, eqb-true}
-use Rattle.std.specs.Prelude.{Float, Result, Ok, Err, eqb, if◌then◌else◌}
+use Rattle.std.proofs.Common.{ℕ, ◌≡◌, ◌≤◌, List, [], length, arith, refl, ap, ◌∙◌}
+use Rattle.std.specs.Prelude.{Float, Result, Ok, Err}
 use Rattle.state.specs.declared.BallState.{BallState}
 use Rattle.aero.specs.declared.BallModel.{BallModel}
 use Rattle.look.specs.Tree.{did, Did}
-use Rattle.course.specs.Sheet.{answer_of, course_of}
+use Rattle.course.specs.Sheet.{course_of}
 use Rattle.records.specs.Records.{Clean, recs, shown, zeroed}
 use Rattle.records.proofs.Laws.{shows, clean_zeroed, zeroed_length, recs-length}
 use Rattle.refusal.specs.declared.Refusal.{Refusal}
@@ -16,27 +16,11 @@ use Rattle.tally.specs.declared.Tally.{Tally}
 use Rattle.shot.specs.declared.Shot.{Shot}
 use Rattle.roll.specs.declared.Ending.{Ending}
 use Rattle.train.specs.Inner.{TrainRuns}
-use Rattle.ground.specs.Tests.{refusal_of, step_test, impact_test}
+use Rattle.ground.specs.Tests.{refusal_of}
 use Rattle.ground.specs.Settle.{result_of, report_of, conditions_of, run_of, settle_of}
 use Rattle.ground.specs.Step.{StepOut, step_by, step_run, step_made, struck_by, impact_by, impact_run, impact_made}
 use Rattle.ground.specs.Inner.{settled_by}
 use Rattle.ground.specs.Passed.{settle_limit}
-
--- a sheet that passed its tests
-past : (a m : ℕ) → (if not (eqb a 0) then a else m) ≡ 0 → a ≡ 0
-past a m h = go (eqb a 0) refl h
-  where
-    go : (z : Bool) → eqb a 0 ≡ z → (if not z then a else m) ≡ 0 → a ≡ 0
-    go true e h = eqb-true a 0 e
-    go false e h = h
-
-pub step_sheet : (s : List ℕ) (dt stop roll : Float) (ball : BallModel) (state : BallState) → step_test s dt stop roll ball state ≡ 0 → answer_of s ≡ 0
-unfolding step_test
-step_sheet s dt stop roll ball state h = past _ _ h
-
-pub impact_sheet : (s : List ℕ) (ball : BallModel) (state : BallState) → impact_test s ball state ≡ 0 → answer_of s ≡ 0
-unfolding impact_test
-impact_sheet s ball state h = past _ _ h
 
 -- a run with no lists, and what a step or an impact gives
 pub step_gives : (s : List ℕ) (dt stop roll : Float) (ball : BallModel) (state : BallState) {x : Outcome StepOut} {n : ℕ} {b : Place}

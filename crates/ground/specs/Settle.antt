@@ -3,9 +3,8 @@ use Rattle.std.specs.Prelude.{ℕ, ◌/◌, List, [], eqb, Float, length, Option
 use Rattle.number.specs.Ops.{◌⊕◌, dec}
 use Rattle.vector.specs.Vec.{zero3}
 use Rattle.state.specs.declared.BallState.{BallState}
-use Rattle.look.specs.Rect.{no_rect}
+use Rattle.look.specs.Rect.{Rect, no_rect}
 use Rattle.look.specs.Tree.{Tree, Spot, Did, exec, looks}
-use Rattle.look.specs.declared.Rect.{Rect}
 use Rattle.course.specs.Sheet.{course_of}
 use Rattle.records.specs.Records.{shown}
 use Rattle.tally.specs.Language.{M, Log, Outcome, goes, stops, Ran, point_width, contact_width}
@@ -14,20 +13,13 @@ use Rattle.shot.specs.declared.Shot.{Shot}
 use Rattle.tally.specs.declared.Conditions.{Conditions}
 use Rattle.roll.specs.declared.Ending.{Ending}
 use Rattle.state.specs.declared.Termination.{Termination}
-use Rattle.state.specs.declared.Termination.TheVariants.{Rest, MaxTime, MaxImpacts}
+use Rattle.state.specs.declared.Termination.TheVariants.{Rest}
 use Rattle.hop.specs.declared.Way.{Way}
 use Rattle.train.specs.Train.{train_by, train}
 use Rattle.ground.specs.Tests.{refusal_of}
 use Rattle.refusal.specs.declared.Refusal.{Refusal}
 use Rattle.refusal.specs.Refusal.{answer_by as number_by}
 use Rattle.ground.specs.declared.Settled.{Settled as Code}
-
--- 0 none, 1 rest, 2 time, 3 impacts: not 01's numbers, but those of the exported functions (reading-01, "The doors"; include/dimple.h)
-unfoldable pub termination_number : Option Termination → ℕ
-termination_number None = 0
-termination_number (Some Rest) = 1
-termination_number (Some MaxTime) = 2
-termination_number (Some MaxImpacts) = 3
 
 -- 01, "Result of a settle": what it returns beside the lists
 pub record Settled : Type 0 where

@@ -11,7 +11,7 @@ use Rattle.look.specs.Tree.{exec}
 use Rattle.course.specs.Sheet.{course_of}
 use Rattle.tally.specs.Language.{M, Outcome, goes, stops, ◌>>=◌, pure, look, test}
 use Rattle.std.specs.Prelude.{if◌then◌else◌}
-use Rattle.roll.specs.Roll.{whole_phase}
+use Rattle.state.specs.Numbers.{whole_phase}
 use Rattle.ground.specs.Tests.{step_test, impact_test}
 use Rattle.ground.specs.Settle.{first_log}
 use Rattle.refusal.specs.declared.Refusal.{Refusal}

@@ -3,10 +3,9 @@
 
 ghost use Rattle.std.specs.Prelude.{◌≡◌, length};
 ghost use Rattle.refusal.specs.Refusal.{answer_by, number_of};
-ghost use Rattle.ground.specs.Tests.{refusal_of, step_test, impact_test};
-ghost use Rattle.ground.specs.Settle.{result_of, told_by, refusal as refusal_r, conditions_of, settle_of, termination_number};
-ghost use Rattle.course.specs.Sheet.{answer_of};
-ghost use Rattle.ground.specs.Inner.{settled_by, ball_and_landing};
+ghost use Rattle.ground.specs.Tests.{refusal_of};
+ghost use Rattle.ground.specs.Settle.{result_of, told_by, refusal as refusal_r, conditions_of, settle_of};
+ghost use Rattle.ground.specs.Inner.{settled_by, after_sheet, ball_and_landing};
 ghost use Rattle.ground.specs.Step.{stepped_by, step_made, step_of, struck_by, impact_made, impact_answer};
 
 use aero::BallModel;
@@ -14,6 +13,7 @@ use course::Course;
 use look::Rect;
 use refusal::Refusal;
 use roll::Ending;
+use sheet::Sheet;
 use shot::Shot;
 use state::{BallState, Phase, Termination};
 use tally::{Conditions, Tally};
@@ -45,13 +45,6 @@ pub struct Settled {
     pub rect: Rect,
 }
 
-#[tactic(auto, unfolding(crate::specs::Settle::termination_number))]
-pub fn termination_number(termination: Option<Termination>) -> u64
-    ensures { result ≡ termination_number termination }
-{
-    termination.map_or(0, |t| t as u64)
-}
-
 // What a refusal hands back: the number, zero counts, an all-zero state and rectangle.
 #[tactic(auto, using(number::proofs::Steps::steps))]
 pub fn refused(refusal: Refusal) -> Settled
@@ -64,7 +57,7 @@ pub fn refused(refusal: Refusal) -> Settled
         steps: 0,
         evaluations: 0,
         rest: BallState::ZERO,
-        rect: look::no_rect(),
+        rect: Rect::new(),
     }
 }
 
@@ -101,7 +94,7 @@ fn conditions(shot: &Shot) -> Conditions
     }
 }
 
-// The settle of a shot that passed its tests.
+// The settle of a shot that passed its tests: this is asked, since it speaks of the course, the shot and both lengths.
 pub fn settle_with(
     course: &Course,
     shot: &Shot,
@@ -140,18 +133,16 @@ pub struct Moved {
     pub phase: Phase,
 }
 
-#[tactic(auto, using(refusal::proofs::Numbers::never_0), unfolding(crate::specs::Tests::step_test))]
+// The tests of a step but the sheet's. It has three of the tunables, as the Rust's contact_step, so they come as numbers and not as a GroundPhysics.
 fn step_test(
-    sheet: &[u8],
     dt: f64,
     stop_speed: f64,
     roll_threshold: f64,
     ball: &BallModel,
     state: &BallState,
 ) -> Result<(), Refusal>
-    ensures { answer_by result ≡ step_test sheet.now dt stop_speed roll_threshold ball.now state.now }
+    ensures { answer_by result ≡ after_sheet dt stop_speed roll_threshold ball.now state.now }
 {
-    sheet::check_sheet(sheet)?;
     if !shot::step_physics_ok(dt, stop_speed, roll_threshold) {
         return Err(Refusal::Physics);
     }
@@ -172,15 +163,14 @@ fn ball_and_landing(ball: &BallModel, state: &BallState) -> Result<(), Refusal>
 }
 
 fn step_made(
-    sheet: &[u8],
+    sheet: Sheet,
     dt: f64,
     stop_speed: f64,
     roll_threshold: f64,
     ball: &BallModel,
     state: &BallState,
 ) -> Result<Moved, Refusal>
-    requires { answer_of sheet.now ≡ 0 }
-    ensures { stepped_by state.now result ≡ step_made sheet.now dt stop_speed roll_threshold ball.now state.now }
+    ensures { stepped_by state.now result ≡ step_made sheet.entry dt stop_speed roll_threshold ball.now state.now }
 {
     let course = Course::scanned(sheet);
     let mut tally = Tally::new(state);
@@ -197,7 +187,7 @@ fn step_made(
 }
 
 // One ground step of a ball on the course of the sheet.
-#[tactic(auto, using(refusal::proofs::Numbers::never_0, crate::proofs::Whole::step_sheet), unfolding(crate::specs::Step::step_of))]
+#[tactic(auto, using(refusal::proofs::Numbers::never_0), unfolding(crate::specs::Tests::step_test, crate::specs::Step::step_of))]
 pub fn step(
     sheet: &[u8],
     dt: f64,
@@ -208,21 +198,13 @@ pub fn step(
 ) -> Result<Moved, Refusal>
     ensures { stepped_by state.now result ≡ step_of sheet.now dt stop_speed roll_threshold ball.now state.now }
 {
-    step_test(sheet, dt, stop_speed, roll_threshold, ball, state)?;
+    let sheet = Sheet::checked(sheet)?;
+    step_test(dt, stop_speed, roll_threshold, ball, state)?;
     step_made(sheet, dt, stop_speed, roll_threshold, ball, state)
 }
 
-#[tactic(auto, using(refusal::proofs::Numbers::never_0), unfolding(crate::specs::Tests::impact_test))]
-fn impact_test(sheet: &[u8], ball: &BallModel, state: &BallState) -> Result<(), Refusal>
-    ensures { answer_by result ≡ impact_test sheet.now ball.now state.now }
-{
-    sheet::check_sheet(sheet)?;
-    ball_and_landing(ball, state)
-}
-
-fn impact_made(sheet: &[u8], ball: &BallModel, state: &BallState) -> Result<BallState, Refusal>
-    requires { answer_of sheet.now ≡ 0 }
-    ensures { struck_by state.now result ≡ impact_made sheet.now ball.now state.now }
+fn impact_made(sheet: Sheet, ball: &BallModel, state: &BallState) -> Result<BallState, Refusal>
+    ensures { struck_by state.now result ≡ impact_made sheet.entry ball.now state.now }
 {
     let course = Course::scanned(sheet);
     let mut tally = Tally::new(state);
@@ -231,10 +213,11 @@ fn impact_made(sheet: &[u8], ball: &BallModel, state: &BallState) -> Result<Ball
 }
 
 // One impact of a ball on the course of the sheet.
-#[tactic(auto, using(refusal::proofs::Numbers::never_0, crate::proofs::Whole::impact_sheet), unfolding(crate::specs::Step::impact_answer))]
+#[tactic(auto, using(refusal::proofs::Numbers::never_0), unfolding(crate::specs::Tests::impact_test, crate::specs::Step::impact_answer))]
 pub fn impact(sheet: &[u8], ball: &BallModel, state: &BallState) -> Result<BallState, Refusal>
     ensures { struck_by state.now result ≡ impact_answer sheet.now ball.now state.now }
 {
-    impact_test(sheet, ball, state)?;
+    let sheet = Sheet::checked(sheet)?;
+    ball_and_landing(ball, state)?;
     impact_made(sheet, ball, state)
 }

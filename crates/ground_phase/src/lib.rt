@@ -54,7 +54,7 @@ pub fn roll_of(s: BallState, at: GroundSample) -> Roll
 }
 
 // Slides and rolls, from what the loop carries to rest or t_end; or it breaks off where a step is due that step_limit does not allow, and gives
-// what the loop carries.
+// what the loop carries. As in a hop, the time and the tally say when the passes end, and one loop for both would be longer than the two.
 pub fn ground(
     course: &Course,
     points: &mut [f64],
@@ -66,7 +66,7 @@ pub fn ground(
     ensures { Grounds (course_of course.now) c.now roll t.old points.old result t.new points.new }
 {
     let mut g = roll;
-    while !tally::is_late(g.state.time, c.t_end) {
+    while !tally::has_come(g.state.time, c.t_end) {
         if t.steps >= c.step_limit {
             return Ok(ControlFlow::Continue(g));
         }

@@ -13,7 +13,7 @@ use sheet::Sheet;
 pub extern "C" fn guess_root(x: f64) -> u64
     ensures { Guess x result × (result ≡ guess_of x) }
 {
-    root::guess(x)
+    root::guess(x).unwrap_or(0)
 }
 
 // Whether a look at the spot is in the column and the row that the index guesses, 1, or tries each patch, 0; 100 for a sheet that is refused.
@@ -23,10 +23,9 @@ pub extern "C" fn guess_root(x: f64) -> u64
 pub extern "C" fn guess_look(sheet: &[u8], x: f64, z: f64) -> u32
     ensures { result ≡ guess_look_of sheet.now x z }
 {
-    if sheet::check_sheet(sheet).is_err() {
+    let Ok(sheet) = Sheet::checked(sheet) else {
         return 100;
-    }
-    let sheet = Sheet::accepted(sheet);
+    };
     let mut index = [0u64; index::INDEX_WORDS];
     index::make_index(&sheet, &mut index);
     u32::from(index::is_guessed(&index, x, z))

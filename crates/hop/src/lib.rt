@@ -19,8 +19,6 @@ use std::ops::ControlFlow;
 use tally::{Conditions, Tally};
 use vector::DVec3;
 
-const SAMPLE_INTERVAL: f64 = 0.01;
-
 // How fast spin fades in the air, a second.
 const FADE_RATE: f64 = 0.04;
 
@@ -46,6 +44,7 @@ fn fade_factor(h: f64) -> f64
     exponential::exp(-(FADE_RATE * h))
 }
 
+// `fading` is a word of the definitions: one run for both settles.
 #[tactic(auto, unfolding(crate::specs::Hop::spin_after))]
 fn spin_after(fading: bool, h: f64, spin: DVec3) -> DVec3
     ensures { result ≡ spin_after fading h spin }
@@ -119,7 +118,7 @@ fn hop_step(
         let s = t.test(arrival)?;
         return Ok(ControlFlow::Break(Way::Arrived(s)));
     }
-    let due = tally::is_due(b.time, f.next_sample);
+    let due = tally::has_come(b.time, f.next_sample);
     t.push_due(due, course, points, &b, Phase::Hop)?;
     let next_sample = tally::next_after(due, f.next_sample, f.next_sample);
     Ok(ControlFlow::Continue(Flight {
@@ -134,12 +133,13 @@ pub fn flight_of(start: &BallState) -> Flight
 {
     Flight {
         state: *start,
-        next_sample: start.time + SAMPLE_INTERVAL,
+        next_sample: start.time + tally::SAMPLE_INTERVAL,
     }
 }
 
 // Flight, from what the loop carries until the ball meets the ground again, or t_end comes first. Where the spin is held it is that of the start.
-// It comes back with what the loop carries where a step is due that step_limit does not allow.
+// It comes back with what the loop carries where a step is due that step_limit does not allow. The time and the tally say when the passes end: a range
+// would count them again. One loop for this and the ground would be handed the pass, the time and the end as closures, and be longer than both.
 pub fn hop(
     course: &Course,
     points: &mut [f64],
@@ -153,7 +153,7 @@ pub fn hop(
     let aero = AeroParams::from_spin_vector(flight.state.spin);
     let mut f = flight;
     loop {
-        if tally::is_late(f.state.time, c.t_end) {
+        if tally::has_come(f.state.time, c.t_end) {
             return Ok(ControlFlow::Break(Way::Late(f.state)));
         }
         if t.steps >= c.step_limit {

@@ -79,10 +79,9 @@ pub fn strike(
     let inertia = k * radius * radius;
     let turned = state.spin + r.cross(j_t_vec) / inertia;
     BallState {
-        time: state.time,
-        pos: state.pos,
         vel: state.vel + n_eff * j_n + j_t_vec,
         spin: pivot_friction(turned, n, surface.pivot * j_n / inertia),
+        ..state
     }
 }
 

@@ -10,7 +10,7 @@ use sheet::Sheet;
 // Up to as many patches are tried one by one, without an index: docs/SPEED.md has the measurement.
 const FEW: usize = 48;
 
-// The words of an index: 256 of marks and 34 cuts.
+// The words of an index: 256 of marks, and 34 cuts as bits. One array and no struct of two: the definitions of the index speak of one list, which a Model would have to put together again.
 pub const INDEX_WORDS: usize = 290;
 
 // The axis along which columns or rows are numbered.
@@ -80,6 +80,7 @@ fn first_marked(sheet: &Sheet, mask: u64, from: usize, end: usize, x: f64, z: f6
 {
     let mut m = mask;
     let mut j = from;
+    // From set bit to set bit; a `for` would test all 64.
     while m != 0 {
         let t = u64::trailing_zeros(m) as usize;
         if end - j <= t {
@@ -206,7 +207,7 @@ fn fill_marks(sheet: &Sheet, index: &mut [u64; INDEX_WORDS])
     }
 }
 
-// The bits of a double; 0 for a NaN.
+// The bits of a double; 0 for a NaN, since a word of the index holds some number in any case.
 #[tactic(auto, unfolding(crate::specs::Index::bits_of))]
 fn bits_of(x: f64) -> u64
     ensures { result ≡ bits_of x }

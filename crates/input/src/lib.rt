@@ -1,7 +1,8 @@
 // The input of the program settle: 240 bytes, 8 a field, little-endian, and then the course sheet (01, "Lists and the rest of the shop").
 #![tactic(auto)]
 
-ghost use Rattle.std.specs.Prelude.{◌≡◌, ◌+◌, ◌*◌, ◌≤◌, length};
+ghost use Rattle.std.specs.Prelude.{◌≡◌, ◌+◌, ◌*◌, ◌<◌, ◌≤◌, ◌⊎◌, length, take, drop, MatchResult};
+ghost use Rattle.refusal.specs.declared.Refusal.TheVariants.{InputLength};
 ghost use Rattle.ground.specs.Settle.{result_of, told_by};
 ghost use Rattle.input.specs.Input.{whole_at, real_at, vec_at, physics_at, ball_at, landing_at, shot_by, settle_input_by};
 
@@ -13,7 +14,7 @@ use state::BallState;
 use vector::DVec3;
 
 // Field i, as a u64.
-fn whole(s: &[u8], i: usize) -> u64
+pub fn whole(s: &[u8], i: usize) -> u64
     requires { 8 * i + 8 ≤ length s.now }
     ensures { result ≡ whole_at s.now i }
 {
@@ -42,10 +43,8 @@ fn vector_at(s: &[u8], i: usize) -> DVec3
     }
 }
 
-// The readers of a whole input take a slice: to make an array of 240 bytes of it can fail, and would want an answer for a failure that no input gives.
 #[tactic(auto, unfolding(crate::specs::Input::physics_at))]
-fn physics_at(s: &[u8]) -> GroundPhysics
-    requires { 240 ≤ length s.now }
+fn physics_at(s: &[u8; 240]) -> GroundPhysics
     ensures { result ≡ physics_at s.now }
 {
     GroundPhysics {
@@ -58,9 +57,10 @@ fn physics_at(s: &[u8]) -> GroundPhysics
     }
 }
 
+// From bytes; `fields` reads one, and vectors and states, from doubles. One reader for both would take each field from a closure, and its contract would
+// be longer than it is.
 #[tactic(auto, unfolding(crate::specs::Input::ball_at))]
-fn ball_at(s: &[u8]) -> BallModel
-    requires { 240 ≤ length s.now }
+fn ball_at(s: &[u8; 240]) -> BallModel
     ensures { result ≡ ball_at s.now }
 {
     BallModel {
@@ -80,8 +80,7 @@ fn ball_at(s: &[u8]) -> BallModel
 }
 
 #[tactic(auto, unfolding(crate::specs::Input::landing_at))]
-fn landing_at(s: &[u8]) -> BallState
-    requires { 240 ≤ length s.now }
+fn landing_at(s: &[u8; 240]) -> BallState
     ensures { result ≡ landing_at s.now }
 {
     BallState {
@@ -94,8 +93,7 @@ fn landing_at(s: &[u8]) -> BallState
 
 // All fields.
 #[tactic(auto, unfolding(crate::specs::Input::shot_by))]
-pub fn shot_at(s: &[u8], fading: bool) -> Shot
-    requires { 240 ≤ length s.now }
+pub fn shot_of(s: &[u8; 240], fading: bool) -> Shot
     ensures { result ≡ shot_by fading s.now }
 {
     Shot {
@@ -108,13 +106,31 @@ pub fn shot_at(s: &[u8], fading: bool) -> Shot
     }
 }
 
+// Those at the front of an input that its caller has not cut.
+pub fn shot_at(s: &[u8], fading: bool) -> Shot
+    requires { 240 ≤ length s.now }
+    ensures { result ≡ shot_by fading s.now }
+{
+    let (head, _sheet) = s.split_first_chunk::<240>().unwrap();
+    shot_of(head, fading)
+}
+
+// The fields of an input, and its sheet. 12 for under 240 or over 34,048 bytes.
+pub fn parts(input: &[u8]) -> Result<(&[u8; 240], &[u8]), Refusal>
+    ensures { MatchResult result (λ p. (240 ≤ length input.now) × (length input.now ≤ 34048) × (p.0.now ≡ take 240 input.now) × (p.1.now ≡ drop 240 input.now)) (λ e. (e ≡ InputLength) × ((length input.now < 240) ⊎ (34048 < length input.now))) }
+{
+    if 34048 < input.len() {
+        return Err(Refusal::InputLength);
+    }
+    input.split_first_chunk::<240>().ok_or(Refusal::InputLength)
+}
+
 // Settles the landing that an input holds, with spin that fades in the air or is held. 12 for under 240 or over 34,048 bytes; the other answers are settle's.
 pub fn settle_input(input: &[u8], fading: bool, contacts: &mut [f64], points: &mut [f64]) -> Settled
     ensures { result_of (told_by result) contacts.new points.new ≡ settle_input_by fading input.now contacts.old points.old }
 {
-    if input.len() < 240 || 34048 < input.len() {
-        return ground::refused(Refusal::InputLength);
+    match parts(input) {
+        Ok((head, sheet)) => ground::settle(sheet, &shot_of(head, fading), contacts, points),
+        Err(refusal) => ground::refused(refusal),
     }
-    let shot = shot_at(input, fading);
-    ground::settle(&input[240..], &shot, contacts, points)
 }

@@ -5,6 +5,7 @@ use Rattle.number.specs.Ops.{dec}
 use Rattle.number.specs.Number.{about_of}
 use Rattle.fields.specs.Fields.{whole_of, nat_of, is_whole, double_at}
 use Rattle.state.specs.declared.Termination.{Termination}
+use Rattle.state.specs.Numbers.{termination_number}
 use Rattle.state.specs.declared.Termination.TheVariants.{Rest, MaxTime, MaxImpacts}
 use Rattle.std.specs.Prelude.{Option, Some, None}
 use Rattle.board.specs.declared.Board.{Board}
@@ -21,14 +22,7 @@ start i = 3 + width * i
 abbrev pub board_length : ℕ
 board_length = start 256
 
--- the number of a termination: 0 none, 1 rest, 2 time, 3 impacts, as in a settle's result
-unfoldable pub number_of : Option Termination → ℕ
-number_of None = 0
-number_of (Some Rest) = 1
-number_of (Some MaxTime) = 2
-number_of (Some MaxImpacts) = 3
-
--- and the termination of a number
+-- the termination of a number
 unfoldable pub termination_of : ℕ → Option Termination
 termination_of n = cond (eqb n 1) (Some Rest) (cond (eqb n 2) (Some MaxTime) (cond (eqb n 3) (Some MaxImpacts) None))
 
@@ -74,7 +68,7 @@ unfoldable pub board_at : List Float → Board
 board_at l = record { pin_x = double_at l 0; pin_z = double_at l 1; count = nat_of (double_at l 2); entries = entries_at l 256 }
 
 abbrev pub entry_fields : Entry → List Float
-entry_fields e = whole_of e.shot ∷ whole_of e.bay ∷ whole_of (number_of e.termination) ∷ whole_of e.contacts ∷ e.x ∷ e.z ∷ []
+entry_fields e = whole_of e.shot ∷ whole_of e.bay ∷ whole_of (termination_number e.termination) ∷ whole_of e.contacts ∷ e.x ∷ e.z ∷ []
 
 -- the first n entries, one after another
 unfoldable pub entries_fields : List Entry → ℕ → List Float

@@ -28,7 +28,8 @@ use Rattle.board.specs.Sorting.{all_insert}
 use Rattle.board.specs.Bays.{InBay}
 use Rattle.board.proofs.Tests.{Tested, no_bay, far, repeated, full, taken, tested, is_near_lem}
 use Rattle.board.proofs.Listing.{Sound, with_listing_lem, with_sound}
-use Rattle.layout.specs.Layout.{width, start, board_length, number_of, termination_of, least_at, entry_ok, entry_at}
+use Rattle.state.specs.Numbers.{termination_number}
+use Rattle.layout.specs.Layout.{width, start, board_length, termination_of, least_at, entry_ok, entry_at}
 use Rattle.layout.specs.Layout.{entries_ok, entries_at, board_ok, board_at, entry_fields, entries_fields, board_fields}
 
 -- ---- the doubles of an entry
@@ -73,7 +74,7 @@ module _ (b : Board) where
     bay_at : double_at (board_fields b) (start i + 1) ≡ whole_of (get_or b.entries i none).bay
     bay_at = double_at_lem i 1 (start i + 1) h (omega arith) (omega arith)
 
-    termination_at : double_at (board_fields b) (start i + 2) ≡ whole_of (number_of (get_or b.entries i none).termination)
+    termination_at : double_at (board_fields b) (start i + 2) ≡ whole_of (termination_number (get_or b.entries i none).termination)
     termination_at = double_at_lem i 2 (start i + 2) h (omega arith) (omega arith)
 
     contacts_at : double_at (board_fields b) (start i + 3) ≡ whole_of (get_or b.entries i none).contacts
@@ -97,7 +98,7 @@ Kept e = Numbers e × (InBay e × Near e)
 
 -- a run that ended: 1 to 3 is its termination's number
 abbrev pub Ended : Option Termination → Type 0
-Ended t = 1 ≤ number_of t
+Ended t = 1 ≤ termination_number t
 
 -- what holds of every board that calls made: 256 places, a count of at most 256, a pin that passed test 9, such an entry in each place, those past
 -- the count too, and on the listing entries of runs that ended
@@ -108,15 +109,15 @@ pub record Held (b : Board) : Type 0 where
   pub kept : All Kept b.entries
   pub ended : All (λ (e : Entry). Ended e.termination) (listing b)
 
-number_most : (t : Option Termination) → number_of t ≤ 3
-unfolding number_of
+number_most : (t : Option Termination) → termination_number t ≤ 3
+unfolding termination_number
 number_most None = omega arith
 number_most (Some Rest) = omega arith
 number_most (Some MaxTime) = omega arith
 number_most (Some MaxImpacts) = omega arith
 
-pub number_back : (t : Option Termination) → termination_of (number_of t) ≡ t
-unfolding number_of termination_of
+pub number_back : (t : Option Termination) → termination_of (termination_number t) ≡ t
+unfolding termination_number termination_of
 number_back None = refl
 number_back (Some Rest) = refl
 number_back (Some MaxTime) = refl
@@ -147,16 +148,16 @@ module _ (b : Board) (h : Held b) where
         z_at b i l,
         nat_whole e.shot k.0.0,
         nat_whole e.bay (omega (arith, k.1.0)),
-        nat_whole (number_of e.termination) (omega arith),
+        nat_whole (termination_number e.termination) (omega arith),
         number_back e.termination,
         nat_whole e.contacts k.0.1,
       )
 
-  least : (i : ℕ) → least_at b.count i ≤ number_of (get_or b.entries i none).termination
+  least : (i : ℕ) → least_at b.count i ≤ termination_number (get_or b.entries i none).termination
   unfolding least_at
   least i = go (ltb i b.count) (ltb→lt i b.count)
     where
-      go : (t : Bool) → (T t → i < b.count) → cond t 1 0 ≤ number_of (get_or b.entries i none).termination
+      go : (t : Bool) → (T t → i < b.count) → cond t 1 0 ≤ termination_number (get_or b.entries i none).termination
       go false f = omega arith
       go true f =
           let c = f tt in
@@ -180,7 +181,7 @@ module _ (b : Board) (h : Held b) where
         z_at b i l,
         whole_is_whole e.shot k.0.0 0 4294967295 (omega arith) k.0.0,
         whole_is_whole e.bay (omega (arith, k.1.0)) 0 7 (omega arith) k.1.0,
-        whole_is_whole (number_of e.termination) (omega arith) (least_at b.count i) 3 (least i) m,
+        whole_is_whole (termination_number e.termination) (omega arith) (least_at b.count i) 3 (least i) m,
         whole_is_whole e.contacts k.0.1 0 4294967295 (omega arith) k.0.1,
         is_true (about_of (dec 1000000 1) e.x) k.1.1.0,
         is_true (about_of (dec 1000000 1) e.z) k.1.1.1,

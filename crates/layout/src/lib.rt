@@ -1,9 +1,8 @@
 // A board as doubles: the pin's x and z, the count, then 256 entries, each shot, bay, termination, contacts, x, z.
 #![tactic(auto)]
 
-ghost use Rattle.std.specs.Prelude.{◌≡◌, ◌+◌, ◌*◌, ◌≤◌, ◌++◌, length, take};
-ghost use Rattle.fields.specs.Fields.{written};
-ghost use Rattle.layout.specs.Layout.{width, board_length, number_of, termination_of, least_at, entry_ok, entry_at};
+ghost use Rattle.std.specs.Prelude.{◌≡◌, ◌++◌, take};
+ghost use Rattle.layout.specs.Layout.{termination_of, least_at, entry_ok, entry_at};
 ghost use Rattle.layout.specs.Layout.{entries_ok, entries_at, board_ok, board_at, entry_fields, entries_fields, board_fields};
 ghost use Rattle.layout.specs.Sent.{end_of};
 
@@ -17,18 +16,7 @@ const WIDTH: usize = 6;
 // The doubles of a board.
 pub const BOARD_LENGTH: usize = 1539;
 
-// 0 none, 1 rest, 2 time, 3 impacts. No From: both types are of other crates.
-#[tactic(auto, unfolding(crate::specs::Layout::number_of))]
-fn termination_number(t: Option<Termination>) -> u32
-    ensures { result ≡ number_of t }
-{
-    match t {
-        None => 0,
-        Some(ended) => ended as u32,
-    }
-}
-
-// And back; none for any other number.
+// The termination of a number in an entry. An Option, since a 0 there is no termination and no error.
 #[tactic(auto, unfolding(crate::specs::Layout::termination_of))]
 pub fn termination_of(n: u32) -> Option<Termination>
     ensures { result ≡ termination_of n }
@@ -41,15 +29,12 @@ pub fn termination_of(n: u32) -> Option<Termination>
     }
 }
 
-// The termination of a run that ended, as an entry holds it.
-#[tactic(auto, unfolding(crate::specs::Sent::is_end))]
+// The termination of a run that ended, as an entry holds it: the Option is never None.
+#[tactic(auto, unfolding(crate::specs::Sent::is_end, crate::specs::Layout::termination_of))]
 pub fn end_of(n: u32) -> Result<Option<Termination>, Refusal>
     ensures { result ≡ end_of n }
 {
-    if (1 <= n) & (n <= 3) {
-        return Ok(termination_of(n));
-    }
-    Err(Refusal::NoTermination)
+    termination_of(n).map(Some).ok_or(Refusal::NoTermination)
 }
 
 // The least number of a termination at a place: an entry of the listing has ended, a place past it may be empty.
@@ -60,49 +45,46 @@ fn least_at(count: u32, i: usize) -> u32
     u32::from(i < count as usize)
 }
 
-fn entry_ok(l: &[f64; BOARD_LENGTH], least: u32, o: usize) -> bool
-    requires { o + width ≤ board_length }
-    ensures { result ≡ entry_ok l.now least o }
+// Whether the doubles are an entry's, with a termination from `least` on.
+fn entry_ok(e: &[f64; WIDTH], least: u32) -> bool
+    ensures { result ≡ entry_ok e.now least 0 }
 {
-    is_whole(l[o], 0, 4294967295)
-        & (is_whole(l[o + 1], 0, 7)
-            & (is_whole(l[o + 2], least, 3)
-                & (is_whole(l[o + 3], 0, 4294967295)
-                    & (number::within(-1000000.0, 1000000.0, l[o + 4])
-                        & number::within(-1000000.0, 1000000.0, l[o + 5])))))
+    is_whole(e[0], 0, 4294967295)
+        & (is_whole(e[1], 0, 7)
+            & (is_whole(e[2], least, 3)
+                & (is_whole(e[3], 0, 4294967295)
+                    & (number::within(-1000000.0, 1000000.0, e[4])
+                        & number::within(-1000000.0, 1000000.0, e[5])))))
 }
 
 #[tactic(auto, unfolding(crate::specs::Layout::entry_at))]
-fn entry_at(l: &[f64; BOARD_LENGTH], o: usize) -> Entry
-    requires { o + width ≤ board_length }
-    ensures { result ≡ entry_at l.now o }
+fn entry_at(e: &[f64; WIDTH]) -> Entry
+    ensures { result ≡ entry_at e.now 0 }
 {
     Entry {
-        shot: nat_of(l[o]),
-        bay: nat_of(l[o + 1]),
-        termination: termination_of(nat_of(l[o + 2])),
-        contacts: nat_of(l[o + 3]),
-        x: l[o + 4],
-        z: l[o + 5],
+        shot: nat_of(e[0]),
+        bay: nat_of(e[1]),
+        termination: termination_of(nat_of(e[2])),
+        contacts: nat_of(e[3]),
+        x: e[4],
+        z: e[5],
     }
 }
 
 fn entries_ok(l: &[f64; BOARD_LENGTH], count: u32) -> bool
     ensures { result ≡ entries_ok l.now count 256 }
 {
-    let mut ok = true;
-    for i in 0..256 {
-        ok &= entry_ok(l, least_at(count, i), 3 + WIDTH * i);
-    }
-    ok
+    let (held, _) = l[3..].as_chunks::<WIDTH>();
+    held.iter()
+        .enumerate()
+        .all(|(i, e)| entry_ok(e, least_at(count, i)))
 }
 
-fn read_entries(l: &[f64; BOARD_LENGTH], entries: &mut [Entry; 256])
-    ensures { entries.new ≡ entries_at l.now 256 }
+fn entries_at(l: &[f64; BOARD_LENGTH]) -> [Entry; 256]
+    ensures { result ≡ entries_at l.now 256 }
 {
-    for i in 0..256 {
-        entries[i] = entry_at(l, 3 + WIDTH * i);
-    }
+    let (held, _) = l[3..].as_chunks::<WIDTH>();
+    std::array::from_fn(|i| entry_at(&held[i]))
 }
 
 // Whether the doubles are a board's.
@@ -119,32 +101,33 @@ pub fn board_ok(l: &[f64; BOARD_LENGTH]) -> bool
 pub fn board_at(l: &[f64; BOARD_LENGTH]) -> Board
     ensures { result ≡ board_at l.now }
 {
-    let mut board = Board::empty(l[0], l[1]);
-    board.count = nat_of(l[2]) as usize;
-    read_entries(l, &mut board.entries);
-    board
+    Board {
+        pin_x: l[0],
+        pin_z: l[1],
+        count: nat_of(l[2]) as usize,
+        entries: entries_at(l),
+    }
 }
 
-fn write_entry(out: &mut [f64; BOARD_LENGTH], o: usize, e: &Entry)
-    requires { o + width ≤ board_length }
-    ensures { out.new ≡ written out.old o (entry_fields e.now) }
+fn entry_numbers(e: &Entry) -> [f64; WIDTH]
+    ensures { result ≡ entry_fields e.now }
 {
-    let rec = [
+    [
         fields::whole(u64::from(e.shot)),
         fields::whole(u64::from(e.bay)),
-        fields::whole(u64::from(termination_number(e.termination))),
+        fields::whole(u64::from(state::termination_number(e.termination))),
         fields::whole(u64::from(e.contacts)),
         e.x,
         e.z,
-    ];
-    fields::put(out, o, &rec);
+    ]
 }
 
+// At an index: the library's as_chunks_mut says nothing of what the list holds afterwards.
 fn write_entries(out: &mut [f64; BOARD_LENGTH], entries: &[Entry; 256])
     ensures { out.new ≡ take 3 out.old ++ entries_fields entries.now 256 }
 {
     for i in 0..256 {
-        write_entry(out, 3 + WIDTH * i, &entries[i]);
+        fields::put(out, 3 + WIDTH * i, &entry_numbers(&entries[i]));
     }
 }
 

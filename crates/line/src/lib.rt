@@ -33,6 +33,7 @@ fn put_settled(out: &mut [u8], s: &Settled) -> usize
 {
     let answer = refusal::answer(&s.outcome);
     let a = put_count(out, 0, b"answer ", answer as u64);
+    // By their numbers, as 01 has them: a match would list the twelve refusals of calls that make no run.
     if (1 <= answer) & (answer <= 12) {
         return text::put(out, a, b"\n");
     }

@@ -1,4 +1,4 @@
-// The bay's microphones (02, paper 14): the times heard, held against a run's contact times.
+// The bay's microphones (02): the times heard, held against a run's contact times.
 #![tactic(auto)]
 
 ghost use Rattle.std.specs.Prelude.{◌≡◌, ◌+◌, ◌-◌, ◌*◌, ◌≤◌, ◌<◌, length, replicate};
@@ -10,7 +10,7 @@ ghost use Rattle.listen.specs.Inner.{front_of, Walked};
 
 use refusal::Refusal;
 
-// The numbers of a contact in a contact list.
+// The numbers of a contact in a contact list, as the crate tally has it, on which this one doesn't stand.
 const CONTACT_WIDTH: usize = 20;
 
 // What one turn of the walk marks, and the byte that stands for it in the mark list.
@@ -37,7 +37,7 @@ fn time_ok(before: f64, x: f64) -> bool
     number::within(0.0, 1000000.0, x) & !(x < before)
 }
 
-// The first double of each of n records.
+// The first double of each of n records. n stands beside the list, since C lends room for more contacts than there are.
 fn times_ok(list: &[f64], width: usize, n: usize) -> bool
     requires { (0 < width) × (n * width ≤ length list.now) }
     ensures { result ≡ times_ok (firsts width n list.now) }

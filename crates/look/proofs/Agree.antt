@@ -1,8 +1,7 @@
 -- Statements. A run depends on a course only at the spots that it looks at, and its rectangle is the one reckoned from those spots.
 use Rattle.std.specs.Prelude.{◌≡◌, refl, List, Bool, true, false}
 use Rattle.std.proofs.Common.{ap}
-use Rattle.look.specs.declared.Rect.{Rect}
-use Rattle.look.specs.Rect.{spot_ok}
+use Rattle.look.specs.Rect.{Rect, spot_ok}
 use Rattle.look.specs.Tree.{Tree, done, look, step, Oracle, Spot, run, looks, exec, did, seen, answer, note, widen_where}
 use Rattle.look.specs.Agree.{AgreeOn, rect_from}
 

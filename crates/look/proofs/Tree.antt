@@ -1,8 +1,7 @@
 -- Lemmas. The laws of the look tree that a caller's proof goes by.
 use Rattle.std.specs.Prelude.{◌≡◌, refl, List, ◌++◌, Bool, true, false}
 use Rattle.std.proofs.Common.{◌∙◌}
-use Rattle.look.specs.declared.Rect.{Rect}
-use Rattle.look.specs.Rect.{spot_ok}
+use Rattle.look.specs.Rect.{Rect, spot_ok}
 use Rattle.look.specs.Tree.{done, look, step, Tree, Oracle, seen, note, bind, run, looks, Did, did, widen_where, exec}
 
 pub run_bind : {A B : Type 0} (o : Oracle) (t : Tree A) (k : A → Tree B) → run o (bind t k) ≡ run o (k (run o t))

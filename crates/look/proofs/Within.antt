@@ -5,9 +5,8 @@ use Rattle.std.proofs.Math.Bool.{true, false}
 use Rattle.std.proofs.Math.Dec.{T}
 use Rattle.std.specs.Float.{nan, inf, fin}
 use Rattle.std.specs.Float.Ieee.{lt, le, neg, round}
-use Rattle.look.specs.declared.Rect.{Rect}
+use Rattle.look.specs.Rect.{Rect, widen, widen_if, lesser, greater, is_double, spot_ok, no_rect}
 use Rattle.state.specs.State.{coord_ok}
-use Rattle.look.specs.Rect.{widen, widen_if, lesser, greater, is_double, spot_ok, no_rect}
 use Rattle.number.specs.Number.{within_of, finite_of}
 use Rattle.number.specs.Order.{le_through, le_self, lt-le, nlt-le}
 use Rattle.look.specs.Tree.{Tree, done, look, step, Oracle, Spot, looks, exec, seen, note}

@@ -1,7 +1,6 @@
 -- Definitions. What it says that two courses agree at a list of spots, and the rectangle reckoned from such a list.
 use Rattle.std.specs.Prelude.{◌≡◌, List, [], ◌∷◌}
-use Rattle.look.specs.declared.Rect.{Rect}
-use Rattle.look.specs.Rect.{widen}
+use Rattle.look.specs.Rect.{Rect, widen}
 use Rattle.look.specs.Tree.{Oracle, Spot}
 
 -- P of each spot of a list

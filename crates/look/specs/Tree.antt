@@ -1,10 +1,9 @@
 -- Definitions. The look tree: a definition that may look at a course, as its looks, its steps and its answer.
 use Rattle.std.specs.Prelude.{ℕ, List, [], ◌∷◌, Bool, true, false, Float, Option, Some, None}
-use Rattle.look.specs.declared.Rect.{Rect}
+use Rattle.look.specs.Rect.{Rect, widen, spot_ok}
 use Rattle.state.specs.declared.BallState.{BallState}
 use Rattle.state.specs.declared.Phase.{Phase}
 use Rattle.surface.specs.declared.GroundSample.{GroundSample}
-use Rattle.look.specs.Rect.{widen, spot_ok}
 
 -- a spot of 01: an x and a z
 pub record Spot : Type 0 where

@@ -1,6 +1,6 @@
 -- The one NaN.
 use mathlib.Core.Path.{◌≡◌, refl, sym}
-use mathlib.Core.Bool.{true, false, true≢false}
+use mathlib.Core.Bool.{true, true≢false}
 use lib.Ieee.{Float, nan, inf, fin, is_nan}
 
 pub is_nan_lem : (x : Float) → is_nan x ≡ true → x ≡ nan

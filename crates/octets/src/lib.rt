@@ -6,6 +6,7 @@ ghost use Rattle.std.specs.Float.{binary64};
 ghost use Rattle.std.specs.Float.Ieee.{of_bits};
 ghost use Rattle.octets.specs.Octets.{little};
 
+// The readers take a place: what is read is one list of bytes.
 pub fn half(s: &[u8], o: usize) -> u32
     requires { o + 4 ≤ length s.now }
     ensures { result ≡ little 4 s.now o }
@@ -17,7 +18,16 @@ pub fn word(s: &[u8], o: usize) -> u64
     requires { o + 8 ≤ length s.now }
     ensures { result ≡ little 8 s.now o }
 {
-    (half(s, o) as u64) + 4294967296 * (half(s, o + 4) as u64)
+    u64::from_le_bytes([
+        s[o],
+        s[o + 1],
+        s[o + 2],
+        s[o + 3],
+        s[o + 4],
+        s[o + 5],
+        s[o + 6],
+        s[o + 7],
+    ])
 }
 
 // The double with these bits; every pattern of a NaN gives the one NaN.

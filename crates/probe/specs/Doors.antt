@@ -4,6 +4,7 @@ use Rattle.std.specs.Prelude.{ℕ, cond, ◌&&◌, List, [], ◌∷◌, ◌++◌
 use Rattle.std.proofs.Common.{append-nil, ap, ◌∙◌, zero-add}
 use Rattle.std.proofs.Math.Seq.{drop-length}
 use borrow.Author.Tests.{eq-eqb, ne_eqb}
+use denote.Ref.{Bor, MutBor}
 use Rattle.fields.specs.Fields.{double_at, vec_at, state_at, ball_at, state_fields, written}
 use Rattle.surface.specs.Surface.{coefficient_at, speed_factor, contact_angle}
 use Rattle.number.specs.Ops.{dec}
@@ -19,7 +20,8 @@ use Rattle.slide.specs.Slide.{slide_of}
 use Rattle.slide.specs.declared.Slid.{Slid}
 use Rattle.rolling.specs.ContactStep.{contact_step_of}
 use Rattle.rolling.specs.declared.Stepped.{Stepped}
-use Rattle.probe.specs.Rows.{restitution_of, roll_law_of, sample_at, green_with, flight_at, motion_at, patch_at, vec_fields, flight_fields, truth_of, truth_number, phase_number}
+use Rattle.state.specs.Numbers.{phase_number}
+use Rattle.probe.specs.Rows.{restitution_of, roll_law_of, sample_at, green_with, flight_at, motion_at, patch_at, vec_fields, flight_fields, truth_of, truth_number}
 
 -- the answer of a door, and what `out` holds afterwards
 pub record Opened : Type 0 where
@@ -50,6 +52,18 @@ module _ (n m : ℕ) (f : List Float → List Float) (input out : List Float) wh
 pub all_written : (l r : List Float) → length l ≡ length r → written l 0 r ≡ r
 unfolding written
 all_written l r e = ap (λ (t : List Float). r ++ t) (simp (zero-add, ← e, drop-length)) ∙ append-nil r
+
+-- ---- the function as a closure over the input and `out`
+
+-- it may be called there if each has the length that is named
+abbrev pub MayRun : ℕ → ℕ → List Float → List Float → (Bor (List Float) → MutBor (List Float) → Type 0) → Type 0
+MayRun n m input out pre =
+    length input ≡ n → length out ≡ m → (p : Bor (List Float)) → (q : MutBor (List Float)) → p.now ≡ input → q.now ≡ out → pre p q
+
+-- each call over this input, and over m doubles, leaves there what f gives of the input
+abbrev pub Leaves : ℕ → List Float → (List Float → List Float) → (Bor (List Float) → MutBor (List Float) → Unit {0} → MutBor (List Float) → Type 0) → Type 0
+Leaves m input f post =
+    (p : Bor (List Float)) → (q : MutBor (List Float)) → (q' : MutBor (List Float)) → p.now ≡ input → length q.now ≡ m → post p q tt q' → q'.now ≡ f input
 
 -- ---- the functions
 

@@ -12,7 +12,6 @@ use Rattle.surface.specs.declared.GroundSample.{GroundSample}
 use Rattle.rk4.specs.declared.State.{State}
 use Rattle.rk4.specs.declared.Motion.{Motion}
 use Rattle.slide.specs.declared.Patch.{Patch}
-use Rattle.state.specs.declared.Phase.{Phase}
 use Rattle.fields.specs.Fields.{double_at, vec_at}
 
 -- kind 1 is Penner2002, any other double Constant
@@ -79,12 +78,6 @@ truth_of x = ne x (dec 0 1)
 -- a truth value that is written
 unfoldable pub truth_number : Bool → Float
 truth_number b = cond b (dec 1 1) (dec 0 1)
-
--- the phase of a ground step: 1 slide, 2 roll
-unfoldable pub phase_number : Phase → Float
-phase_number Phase.Hop = dec 0 1
-phase_number Phase.Slide = dec 1 1
-phase_number Phase.Roll = dec 2 1
 
 abbrev pub vec_fields : DVec3 → List Float
 vec_fields v = v.x ∷ v.y ∷ v.z ∷ []

@@ -1,21 +1,21 @@
-// Doors to single functions, for the comparison with the Rust (compare/). No program needs them.
+// Doors to single functions, for the comparison with the Rust (compare/). No program needs them. Each is a function of its own, since C calls it.
 #![tactic(auto)]
 
-ghost use Rattle.std.specs.Prelude.{◌≡◌, [], ◌∷◌, ◌+◌, ◌≤◌, length};
+ghost use Rattle.std.specs.Prelude.{◌≡◌, [], ◌∷◌, ◌+◌, ◌≤◌, List, Float, length};
 ghost use Rattle.number.specs.Number.{min_of, max_of, clamp_of, abs_of, signum_of};
 ghost use Rattle.root.specs.Root.{root_of, hypot_of};
 ghost use Rattle.exponential.specs.Exp.{exp_of};
 ghost use Rattle.trigonometry.specs.Trig.{cosine_of, sine_of, arctangent_of};
 ghost use Rattle.fields.specs.Fields.{state_fields};
-ghost use Rattle.probe.specs.Rows.{restitution_of, roll_law_of, surface_at, sample_at, green_with, flight_at, motion_at, patch_at, truth_number, phase_number, vec_fields, flight_fields};
-ghost use Rattle.probe.specs.Doors.{opened, door_of, stepped_fields, cd_cl_fields, slid_fields, aero_fields, locked_fields, impact_row, contact_step_row, flight_step_row, coefficient_at_row, acceleration_row, cd_cl_row, slide_row, onto_surface_row, hermite_row, parabola_row, drop_time_row, hops_die_out_row, speed_factor_row, contact_angle_row, from_spin_vector_row, slip_row, lock_rolling_row, saturate_pivot_row, tangential_gravity_row, sample_holds_row};
+ghost use Rattle.probe.specs.Rows.{restitution_of, roll_law_of, surface_at, sample_at, green_with, flight_at, motion_at, patch_at, truth_number, vec_fields, flight_fields};
+ghost use Rattle.probe.specs.Doors.{opened, door_of, MayRun, Leaves, stepped_fields, cd_cl_fields, slid_fields, aero_fields, locked_fields, impact_row, contact_step_row, flight_step_row, coefficient_at_row, acceleration_row, cd_cl_row, slide_row, onto_surface_row, hermite_row, parabola_row, drop_time_row, hops_die_out_row, speed_factor_row, contact_angle_row, from_spin_vector_row, slip_row, lock_rolling_row, saturate_pivot_row, tangential_gravity_row, sample_holds_row};
 
 use aero::{AeroParams, CdCl};
 use contact::Locked;
 use rk4::{Motion, State};
 use rolling::Stepped;
 use slide::{Patch, Slid};
-use state::{BallState, Phase};
+use state::BallState;
 use surface::{GroundSample, Restitution, RollLaw, Surface};
 use vector::DVec3;
 
@@ -164,24 +164,6 @@ fn flight_at(s: &[f64], o: usize) -> State
     }
 }
 
-#[tactic(auto, using(number::proofs::Steps::steps), unfolding(crate::specs::Rows::truth_number))]
-fn truth_number(b: bool) -> f64
-    ensures { result ≡ truth_number b }
-{
-    if b { 1.0 } else { 0.0 }
-}
-
-#[tactic(auto, using(number::proofs::Steps::steps), unfolding(crate::specs::Rows::phase_number))]
-fn phase_number(phase: Phase) -> f64
-    ensures { result ≡ phase_number phase }
-{
-    match phase {
-        Phase::Hop => 0.0,
-        Phase::Slide => 1.0,
-        Phase::Roll => 2.0,
-    }
-}
-
 // Writes the record over all of `out`.
 #[tactic(auto, using(crate::specs::Doors::all_written))]
 fn fill(out: &mut [f64], rec: &[f64])
@@ -217,11 +199,7 @@ fn fill_stepped(out: &mut [f64], step: Stepped)
     ensures { out.new ≡ stepped_fields step }
 {
     fields::put_state(out, 0, step.state);
-    fields::put(
-        out,
-        10,
-        &[phase_number(step.phase), truth_number(step.rolling)],
-    );
+    fields::put(out, 10, &[f64::from(step.phase), f64::from(step.rolling)]);
 }
 
 // Pos, vel, spin.
@@ -271,11 +249,12 @@ fn fill_vec(out: &mut [f64], v: DVec3)
     fill(out, &[v.x, v.y, v.z]);
 }
 
+#[tactic(auto, using(crate::proofs::Numbers::truth))]
 fn fill_truth(out: &mut [f64], b: bool)
     requires { length out.old ≡ 1 }
     ensures { out.new ≡ truth_number b ∷ [] }
 {
-    fill_one(out, truth_number(b));
+    fill_one(out, f64::from(b));
 }
 
 fn fill_cd_cl(out: &mut [f64], c: CdCl)
@@ -285,6 +264,7 @@ fn fill_cd_cl(out: &mut [f64], c: CdCl)
     fill(out, &[c.cd, c.cl]);
 }
 
+#[tactic(auto, using(crate::proofs::Numbers::truth))]
 fn fill_slid(out: &mut [f64], slid: Slid)
     requires { length out.old ≡ 11 }
     ensures { out.new ≡ slid_fields slid }
@@ -292,7 +272,7 @@ fn fill_slid(out: &mut [f64], slid: Slid)
     let p = slid.motion.pos;
     let v = slid.motion.vel;
     let w = slid.motion.spin;
-    let rolls = truth_number(slid.rolls);
+    let rolls = f64::from(slid.rolls);
     let rec = [
         p.x, p.y, p.z, v.x, v.y, v.z, w.x, w.y, w.z, slid.time, rolls,
     ];
@@ -316,307 +296,286 @@ fn fill_locked(out: &mut [f64], locked: Locked)
     fill(out, &[v.x, v.y, v.z, w.x, w.y, w.z]);
 }
 
+// The row over `out` and 0; for a length that is not the one named 100, the exported functions' own answer, with nothing touched. The lengths are numbers: the
+// bound of a closure can't name a const parameter.
+fn door<F: FnOnce(&[f64], &mut [f64])>(
+    n: usize,
+    m: usize,
+    input: &[f64],
+    out: &mut [f64],
+    row: F,
+) -> u32
+    requires { MayRun n m input.now out.old (F.pre row) }
+    ensures { (f : List Float → List Float) → Leaves m input.now f (F.post row) → opened result out.new ≡ door_of n m f input.now out.old }
+{
+    if input.len() != n || out.len() != m {
+        return 100;
+    }
+    row(input, out);
+    0
+}
+
 // Doors to functions of structs (compare/DOORS.md): 0 with all of `out` written, or 100 with nothing touched for a wrong length.
-#[tactic(auto, using(crate::proofs::Doors::ways), unfolding(crate::specs::Doors::impact_row))]
+#[tactic(auto, unfolding(crate::specs::Doors::impact_row))]
 #[unsafe(no_mangle)]
 pub extern "C" fn probe_impact(input: &[f64], out: &mut [f64]) -> u32
     ensures { opened result out.new ≡ door_of 34 10 impact_row input.now out.old }
 {
-    if input.len() != 34 || out.len() != 10 {
-        return 100;
-    }
-    let state = fields::state_at(input, 0);
-    let at = sample_at(input, 10);
-    let ball = fields::ball_at(input, 22);
-    fill_state(out, impact::impact(state, at, ball));
-    0
+    door(34, 10, input, out, |input, out| {
+        let state = fields::state_at(input, 0);
+        let at = sample_at(input, 10);
+        let ball = fields::ball_at(input, 22);
+        fill_state(out, impact::impact(state, at, ball));
+    })
 }
 
-#[tactic(auto, using(crate::proofs::Doors::ways), unfolding(crate::specs::Doors::contact_step_row))]
+#[tactic(auto, unfolding(crate::specs::Doors::contact_step_row))]
 #[unsafe(no_mangle)]
 pub extern "C" fn probe_contact_step(input: &[f64], out: &mut [f64]) -> u32
     ensures { opened result out.new ≡ door_of 37 12 contact_step_row input.now out.old }
 {
-    if input.len() != 37 || out.len() != 12 {
-        return 100;
-    }
-    let state = fields::state_at(input, 0);
-    let at = sample_at(input, 10);
-    let ball = fields::ball_at(input, 22);
-    fill_stepped(
-        out,
-        rolling::contact_step(state, at, ball, input[34], input[35], input[36]),
-    );
-    0
+    door(37, 12, input, out, |input, out| {
+        let state = fields::state_at(input, 0);
+        let at = sample_at(input, 10);
+        let ball = fields::ball_at(input, 22);
+        fill_stepped(
+            out,
+            rolling::contact_step(state, at, ball, input[34], input[35], input[36]),
+        );
+    })
 }
 
-#[tactic(auto, using(crate::proofs::Doors::ways), unfolding(crate::specs::Doors::flight_step_row))]
+#[tactic(auto, unfolding(crate::specs::Doors::flight_step_row))]
 #[unsafe(no_mangle)]
 pub extern "C" fn probe_flight_step(input: &[f64], out: &mut [f64]) -> u32
     ensures { opened result out.new ≡ door_of 24 6 flight_step_row input.now out.old }
 {
-    if input.len() != 24 || out.len() != 6 {
-        return 100;
-    }
-    let ball = fields::ball_at(input, 0);
-    let aero = AeroParams::from_spin_vector(fields::vec_at(input, 12));
-    let start = flight_at(input, 16);
-    fill_flight(
-        out,
-        flight::step(ball, aero, input[15], start, input[22], input[23]),
-    );
-    0
+    door(24, 6, input, out, |input, out| {
+        let ball = fields::ball_at(input, 0);
+        let aero = AeroParams::from_spin_vector(fields::vec_at(input, 12));
+        let start = flight_at(input, 16);
+        fill_flight(
+            out,
+            flight::step(ball, aero, input[15], start, input[22], input[23]),
+        );
+    })
 }
 
-#[tactic(auto, using(crate::proofs::Doors::ways), unfolding(crate::specs::Doors::coefficient_at_row))]
+#[tactic(auto, unfolding(crate::specs::Doors::coefficient_at_row))]
 #[unsafe(no_mangle)]
 pub extern "C" fn probe_coefficient_at(input: &[f64], out: &mut [f64]) -> u32
     ensures { opened result out.new ≡ door_of 3 1 coefficient_at_row input.now out.old }
 {
-    if input.len() != 3 || out.len() != 1 {
-        return 100;
-    }
-    let restitution = restitution_of(input[0], input[1]);
-    fill_one(out, restitution.coefficient_at(input[2]));
-    0
+    door(3, 1, input, out, |input, out| {
+        let restitution = restitution_of(input[0], input[1]);
+        fill_one(out, restitution.coefficient_at(input[2]));
+    })
 }
 
-#[tactic(auto, using(crate::proofs::Doors::ways))]
+#[tactic(auto, using(crate::proofs::Numbers::decay), unfolding(crate::specs::Doors::acceleration_row))]
 #[unsafe(no_mangle)]
 pub extern "C" fn probe_acceleration(input: &[f64], out: &mut [f64]) -> u32
     ensures { opened result out.new ≡ door_of 20 3 acceleration_row input.now out.old }
 {
-    if input.len() != 20 || out.len() != 3 {
-        return 100;
-    }
-    let ball = fields::ball_at(input, 0);
-    let vel = fields::vec_at(input, 12);
-    let aero = AeroParams {
-        spin_axis: fields::vec_at(input, 15),
-        spin_rate: input[18],
-        spin_decay: 0.04,
-    };
-    fill_vec(out, ball.acceleration(vel, aero, input[19]));
-    0
+    door(20, 3, input, out, |input, out| {
+        let ball = fields::ball_at(input, 0);
+        let vel = fields::vec_at(input, 12);
+        let aero = AeroParams {
+            spin_axis: fields::vec_at(input, 15),
+            spin_rate: input[18],
+            spin_decay: 0.04,
+        };
+        fill_vec(out, ball.acceleration(vel, aero, input[19]));
+    })
 }
 
-#[tactic(auto, using(crate::proofs::Doors::ways), unfolding(crate::specs::Doors::cd_cl_row))]
+#[tactic(auto, unfolding(crate::specs::Doors::cd_cl_row))]
 #[unsafe(no_mangle)]
 pub extern "C" fn probe_cd_cl(input: &[f64], out: &mut [f64]) -> u32
     ensures { opened result out.new ≡ door_of 15 2 cd_cl_row input.now out.old }
 {
-    if input.len() != 15 || out.len() != 2 {
-        return 100;
-    }
-    let ball = fields::ball_at(input, 0);
-    fill_cd_cl(out, ball.cd_cl(input[12], input[13], input[14]));
-    0
+    door(15, 2, input, out, |input, out| {
+        let ball = fields::ball_at(input, 0);
+        fill_cd_cl(out, ball.cd_cl(input[12], input[13], input[14]));
+    })
 }
 
-#[tactic(auto, using(crate::proofs::Doors::ways), unfolding(crate::specs::Doors::slide_row))]
+#[tactic(auto, unfolding(crate::specs::Doors::slide_row))]
 #[unsafe(no_mangle)]
 pub extern "C" fn probe_slide(input: &[f64], out: &mut [f64]) -> u32
     ensures { opened result out.new ≡ door_of 24 11 slide_row input.now out.old }
 {
-    if input.len() != 24 || out.len() != 11 {
-        return 100;
-    }
-    let patch = patch_at(input, 0);
-    let start = motion_at(input, 12);
-    fill_slid(
-        out,
-        slide::slide(patch, start, input[21], input[22], input[23]),
-    );
-    0
+    door(24, 11, input, out, |input, out| {
+        let patch = patch_at(input, 0);
+        let start = motion_at(input, 12);
+        fill_slid(
+            out,
+            slide::slide(patch, start, input[21], input[22], input[23]),
+        );
+    })
 }
 
-#[tactic(auto, using(crate::proofs::Doors::ways, number::proofs::Steps::zero), unfolding(crate::specs::Doors::onto_surface_row))]
+#[tactic(auto, using(number::proofs::Steps::zero), unfolding(crate::specs::Doors::onto_surface_row))]
 #[unsafe(no_mangle)]
 pub extern "C" fn probe_onto_surface(input: &[f64], out: &mut [f64]) -> u32
     ensures { opened result out.new ≡ door_of 27 10 onto_surface_row input.now out.old }
 {
-    if input.len() != 27 || out.len() != 10 {
-        return 100;
-    }
-    let state = fields::state_at(input, 0);
-    let at = sample_at(input, 10);
-    let prev_normal = fields::vec_at(input, 22);
-    let rolling = input[25] != 0.0;
-    fill_state(
-        out,
-        contact::onto_surface(state, at, prev_normal, rolling, input[26]),
-    );
-    0
+    door(27, 10, input, out, |input, out| {
+        let state = fields::state_at(input, 0);
+        let at = sample_at(input, 10);
+        let prev_normal = fields::vec_at(input, 22);
+        let rolling = input[25] != 0.0;
+        fill_state(
+            out,
+            contact::onto_surface(state, at, prev_normal, rolling, input[26]),
+        );
+    })
 }
 
-#[tactic(auto, using(crate::proofs::Doors::ways), unfolding(crate::specs::Doors::hermite_row))]
+#[tactic(auto, unfolding(crate::specs::Doors::hermite_row))]
 #[unsafe(no_mangle)]
 pub extern "C" fn probe_hermite(input: &[f64], out: &mut [f64]) -> u32
     ensures { opened result out.new ≡ door_of 14 6 hermite_row input.now out.old }
 {
-    if input.len() != 14 || out.len() != 6 {
-        return 100;
-    }
-    let a = flight_at(input, 0);
-    let b = flight_at(input, 6);
-    fill_flight(out, flight::hermite(a, b, input[12], input[13]));
-    0
+    door(14, 6, input, out, |input, out| {
+        let a = flight_at(input, 0);
+        let b = flight_at(input, 6);
+        fill_flight(out, flight::hermite(a, b, input[12], input[13]));
+    })
 }
 
-#[tactic(auto, using(crate::proofs::Doors::ways), unfolding(crate::specs::Doors::parabola_row))]
+#[tactic(auto, unfolding(crate::specs::Doors::parabola_row))]
 #[unsafe(no_mangle)]
 pub extern "C" fn probe_parabola(input: &[f64], out: &mut [f64]) -> u32
     ensures { opened result out.new ≡ door_of 7 6 parabola_row input.now out.old }
 {
-    if input.len() != 7 || out.len() != 6 {
-        return 100;
-    }
-    let a = flight_at(input, 0);
-    fill_flight(out, flight::parabola(a, input[6]));
-    0
+    door(7, 6, input, out, |input, out| {
+        let a = flight_at(input, 0);
+        fill_flight(out, flight::parabola(a, input[6]));
+    })
 }
 
-#[tactic(auto, using(crate::proofs::Doors::ways), unfolding(crate::specs::Doors::drop_time_row))]
+#[tactic(auto, unfolding(crate::specs::Doors::drop_time_row))]
 #[unsafe(no_mangle)]
 pub extern "C" fn probe_drop_time(input: &[f64], out: &mut [f64]) -> u32
     ensures { opened result out.new ≡ door_of 2 1 drop_time_row input.now out.old }
 {
-    if input.len() != 2 || out.len() != 1 {
-        return 100;
-    }
-    fill_one(out, flight::drop_time(input[0], input[1]));
-    0
+    door(2, 1, input, out, |input, out| {
+        fill_one(out, flight::drop_time(input[0], input[1]));
+    })
 }
 
-#[tactic(auto, using(crate::proofs::Doors::ways), unfolding(crate::specs::Doors::hops_die_out_row))]
+#[tactic(auto, unfolding(crate::specs::Doors::hops_die_out_row))]
 #[unsafe(no_mangle)]
 pub extern "C" fn probe_hops_die_out(input: &[f64], out: &mut [f64]) -> u32
     ensures { opened result out.new ≡ door_of 46 1 hops_die_out_row input.now out.old }
 {
-    if input.len() != 46 || out.len() != 1 {
-        return 100;
-    }
-    let arrival = fields::state_at(input, 0);
-    let rebound = fields::state_at(input, 10);
-    let next = fields::state_at(input, 20);
-    let n = fields::vec_at(input, 30);
-    let ball = fields::ball_at(input, 33);
-    fill_truth(
-        out,
-        contact::hops_die_out(arrival, rebound, next, n, ball, input[45]),
-    );
-    0
+    door(46, 1, input, out, |input, out| {
+        let arrival = fields::state_at(input, 0);
+        let rebound = fields::state_at(input, 10);
+        let next = fields::state_at(input, 20);
+        let n = fields::vec_at(input, 30);
+        let ball = fields::ball_at(input, 33);
+        fill_truth(
+            out,
+            contact::hops_die_out(arrival, rebound, next, n, ball, input[45]),
+        );
+    })
 }
 
-#[tactic(auto, using(crate::proofs::Doors::ways), unfolding(crate::specs::Doors::speed_factor_row))]
+#[tactic(auto, unfolding(crate::specs::Doors::speed_factor_row))]
 #[unsafe(no_mangle)]
 pub extern "C" fn probe_speed_factor(input: &[f64], out: &mut [f64]) -> u32
     ensures { opened result out.new ≡ door_of 3 1 speed_factor_row input.now out.old }
 {
-    if input.len() != 3 || out.len() != 1 {
-        return 100;
-    }
-    let law = roll_law_of(input[0], input[1]);
-    fill_one(out, law.speed_factor(input[2]));
-    0
+    door(3, 1, input, out, |input, out| {
+        let law = roll_law_of(input[0], input[1]);
+        fill_one(out, law.speed_factor(input[2]));
+    })
 }
 
-#[tactic(auto, using(crate::proofs::Doors::ways), unfolding(crate::specs::Doors::contact_angle_row))]
+#[tactic(auto, unfolding(crate::specs::Doors::contact_angle_row))]
 #[unsafe(no_mangle)]
 pub extern "C" fn probe_contact_angle(input: &[f64], out: &mut [f64]) -> u32
     ensures { opened result out.new ≡ door_of 3 1 contact_angle_row input.now out.old }
 {
-    if input.len() != 3 || out.len() != 1 {
-        return 100;
-    }
-    let surface = green_with(input[0]);
-    fill_one(out, surface.contact_angle(input[1], input[2]));
-    0
+    door(3, 1, input, out, |input, out| {
+        let surface = green_with(input[0]);
+        fill_one(out, surface.contact_angle(input[1], input[2]));
+    })
 }
 
-#[tactic(auto, using(crate::proofs::Doors::ways), unfolding(crate::specs::Doors::from_spin_vector_row))]
+#[tactic(auto, unfolding(crate::specs::Doors::from_spin_vector_row))]
 #[unsafe(no_mangle)]
 pub extern "C" fn probe_from_spin_vector(input: &[f64], out: &mut [f64]) -> u32
     ensures { opened result out.new ≡ door_of 3 5 from_spin_vector_row input.now out.old }
 {
-    if input.len() != 3 || out.len() != 5 {
-        return 100;
-    }
-    let omega = fields::vec_at(input, 0);
-    fill_aero(out, AeroParams::from_spin_vector(omega));
-    0
+    door(3, 5, input, out, |input, out| {
+        let omega = fields::vec_at(input, 0);
+        fill_aero(out, AeroParams::from_spin_vector(omega));
+    })
 }
 
-#[tactic(auto, using(crate::proofs::Doors::ways), unfolding(crate::specs::Doors::slip_row))]
+#[tactic(auto, unfolding(crate::specs::Doors::slip_row))]
 #[unsafe(no_mangle)]
 pub extern "C" fn probe_slip(input: &[f64], out: &mut [f64]) -> u32
     ensures { opened result out.new ≡ door_of 10 3 slip_row input.now out.old }
 {
-    if input.len() != 10 || out.len() != 3 {
-        return 100;
-    }
-    let vel = fields::vec_at(input, 0);
-    let spin = fields::vec_at(input, 3);
-    let n = fields::vec_at(input, 6);
-    fill_vec(out, contact::slip(vel, spin, n, input[9]));
-    0
+    door(10, 3, input, out, |input, out| {
+        let vel = fields::vec_at(input, 0);
+        let spin = fields::vec_at(input, 3);
+        let n = fields::vec_at(input, 6);
+        fill_vec(out, contact::slip(vel, spin, n, input[9]));
+    })
 }
 
-#[tactic(auto, using(crate::proofs::Doors::ways), unfolding(crate::specs::Doors::lock_rolling_row))]
+#[tactic(auto, unfolding(crate::specs::Doors::lock_rolling_row))]
 #[unsafe(no_mangle)]
 pub extern "C" fn probe_lock_rolling(input: &[f64], out: &mut [f64]) -> u32
     ensures { opened result out.new ≡ door_of 11 6 lock_rolling_row input.now out.old }
 {
-    if input.len() != 11 || out.len() != 6 {
-        return 100;
-    }
-    let vel = fields::vec_at(input, 0);
-    let spin = fields::vec_at(input, 3);
-    let n = fields::vec_at(input, 6);
-    fill_locked(
-        out,
-        contact::lock_rolling(vel, spin, n, input[9], input[10]),
-    );
-    0
+    door(11, 6, input, out, |input, out| {
+        let vel = fields::vec_at(input, 0);
+        let spin = fields::vec_at(input, 3);
+        let n = fields::vec_at(input, 6);
+        fill_locked(
+            out,
+            contact::lock_rolling(vel, spin, n, input[9], input[10]),
+        );
+    })
 }
 
-#[tactic(auto, using(crate::proofs::Doors::ways), unfolding(crate::specs::Doors::saturate_pivot_row))]
+#[tactic(auto, unfolding(crate::specs::Doors::saturate_pivot_row))]
 #[unsafe(no_mangle)]
 pub extern "C" fn probe_saturate_pivot(input: &[f64], out: &mut [f64]) -> u32
     ensures { opened result out.new ≡ door_of 9 3 saturate_pivot_row input.now out.old }
 {
-    if input.len() != 9 || out.len() != 3 {
-        return 100;
-    }
-    let start = fields::vec_at(input, 0);
-    let end = fields::vec_at(input, 3);
-    let n = fields::vec_at(input, 6);
-    fill_vec(out, contact::saturate_pivot(start, end, n));
-    0
+    door(9, 3, input, out, |input, out| {
+        let start = fields::vec_at(input, 0);
+        let end = fields::vec_at(input, 3);
+        let n = fields::vec_at(input, 6);
+        fill_vec(out, contact::saturate_pivot(start, end, n));
+    })
 }
 
-#[tactic(auto, using(crate::proofs::Doors::ways), unfolding(crate::specs::Doors::tangential_gravity_row))]
+#[tactic(auto, unfolding(crate::specs::Doors::tangential_gravity_row))]
 #[unsafe(no_mangle)]
 pub extern "C" fn probe_tangential_gravity(input: &[f64], out: &mut [f64]) -> u32
     ensures { opened result out.new ≡ door_of 3 3 tangential_gravity_row input.now out.old }
 {
-    if input.len() != 3 || out.len() != 3 {
-        return 100;
-    }
-    let n = fields::vec_at(input, 0);
-    fill_vec(out, contact::tangential_gravity(n));
-    0
+    door(3, 3, input, out, |input, out| {
+        let n = fields::vec_at(input, 0);
+        fill_vec(out, contact::tangential_gravity(n));
+    })
 }
 
-#[tactic(auto, using(crate::proofs::Doors::ways), unfolding(crate::specs::Doors::sample_holds_row))]
+#[tactic(auto, unfolding(crate::specs::Doors::sample_holds_row))]
 #[unsafe(no_mangle)]
 pub extern "C" fn probe_sample_holds(input: &[f64], out: &mut [f64]) -> u32
     ensures { opened result out.new ≡ door_of 12 1 sample_holds_row input.now out.old }
 {
-    if input.len() != 12 || out.len() != 1 {
-        return 100;
-    }
-    let at = sample_at(input, 0);
-    fill_truth(out, contact::sample_holds(at));
-    0
+    door(12, 1, input, out, |input, out| {
+        let at = sample_at(input, 0);
+        fill_truth(out, contact::sample_holds(at));
+    })
 }

@@ -9,7 +9,7 @@ use Rattle.state.specs.State.{coord_ok, vec_ok, state_ok}
 use Rattle.shot.specs.declared.Shot.{Shot}
 use Rattle.state.specs.declared.Termination.{Termination}
 use Rattle.state.specs.declared.Termination.TheVariants.{Rest, MaxTime, MaxImpacts}
-use Rattle.ground.specs.Settle.{Settled, termination_number, settle_of}
+use Rattle.ground.specs.Settle.{Settled, settle_of}
 use Rattle.promises.proofs.Finite.{settle_leaves}
 use Rattle.promises.proofs.Promises.{answered, finished}
 use Rattle.board.specs.declared.Board.{Board}
@@ -18,6 +18,7 @@ use Rattle.board.specs.Rules.{holds, used}
 use Rattle.board.specs.Board.{listing, empty_board, enter_of}
 use Rattle.board.specs.Words.{Near, after, accepted}
 use Rattle.board.proofs.Listing.{never_10, made_taken}
+use Rattle.state.specs.Numbers.{termination_number}
 use Rattle.layout.specs.Layout.{termination_of}
 use Rattle.layout.specs.Sent.{Sent, is_end, sent_of}
 

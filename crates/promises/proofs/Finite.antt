@@ -25,7 +25,8 @@ use Rattle.shot.specs.declared.Shot.{Shot}
 use Rattle.shot.specs.declared.GroundPhysics.{GroundPhysics}
 use Rattle.state.specs.State.{vec_ok, state_ok}
 use Rattle.tally.specs.declared.Conditions.{Conditions}
-use Rattle.tally.specs.Language.{Ran, Outcome, goes, stops, phase_number}
+use Rattle.tally.specs.Language.{Ran, Outcome, goes, stops}
+use Rattle.state.specs.Numbers.{phase_number}
 use Rattle.roll.specs.declared.Ending.{Ending}
 use Rattle.shot.specs.Tests.{vec_about, landing_ok}
 use Rattle.ground.specs.Tests.{refusal_of}

@@ -21,7 +21,7 @@ use Rattle.slide.specs.RootSearch.{slide_time_within}
 use Rattle.rolling.specs.Times.{contact_step_onward}
 use Rattle.contact.specs.Contact.{onto_of}
 use Rattle.look.specs.Tree.{Made}
-use Rattle.tally.specs.Times.{time_eps, is_late}
+use Rattle.tally.specs.Times.{time_eps, has_come, is_late}
 use Rattle.tally.specs.Language.{M, ◌>>=◌, when, look, test, push_point, make_step, Pass, again, over}
 use Rattle.std.specs.Prelude.{if◌then◌else◌}
 use Rattle.tally.specs.declared.Conditions.{Conditions}
@@ -94,7 +94,7 @@ module _ (c : Conditions) (paced : Paced c) where
     t_finite = (state_finite s timed.ok).time
 
     not_late : T (lt s.time c.t_end)
-    unfolding is_late
+    unfolding has_come
     not_late =
         let x = c.t_end ⊖ time_eps in
         let e : T (finite_of time_eps) = unfold round in tt in

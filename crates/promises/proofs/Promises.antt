@@ -11,12 +11,11 @@ use Rattle.number.specs.Number.{within_of, about_of, finite_of}
 use Rattle.state.specs.declared.BallState.{BallState}
 use Rattle.state.specs.declared.Phase.{Phase}
 use Rattle.state.specs.State.{coord_ok, state_ok}
-use Rattle.look.specs.Rect.{no_rect}
+use Rattle.look.specs.Rect.{Rect, no_rect}
 use Rattle.look.specs.Tree.{Oracle, exec}
 use Rattle.records.specs.Records.{Records, shown}
 use Rattle.look.proofs.Resume.{steps as steps_of}
 use Rattle.look.proofs.Within.{Edges, and_parts, coord_fin, edges_ok_lem, no_rect_ok}
-use Rattle.look.specs.declared.Rect.{Rect}
 use Rattle.course.specs.Sheet.{course_of}
 use Rattle.shot.specs.declared.Shot.{Shot}
 use Rattle.shot.specs.declared.GroundPhysics.{GroundPhysics}

@@ -9,11 +9,10 @@ use Rattle.std.proofs.Math.Bool.{true, false}
 use Rattle.std.proofs.Math.Dec.{eqb}
 use Rattle.std.proofs.Math.ListN.{length}
 use Rattle.std.proofs.lemmas.Bool.{eqb-false}
-use Rattle.look.specs.Rect.{no_rect}
+use Rattle.look.specs.Rect.{Rect, no_rect}
 use Rattle.look.specs.Agree.{All, rect_from}
 use Rattle.look.specs.Tree.{Spot}
 use Rattle.look.proofs.Within.{Within, AgreeIn, Inside, agree_within, rect_of_looks, holds_every_look, least_rectangle}
-use Rattle.look.specs.declared.Rect.{Rect}
 use Rattle.course.specs.Sheet.{Accepted, course_of}
 use Rattle.std.specs.Prelude.{if◌then◌else◌}
 use Rattle.shot.specs.Tests.{input_test}

@@ -13,7 +13,7 @@ pub fn zero_from(list: &mut [f64], from: usize)
     }
 }
 
-// Writes the record after n others, if there is room for it: the number of records now, or none.
+// Writes the record after n others (C lends room for more), if there is room for it: the number of records now, or none.
 pub fn push(list: &mut [f64], n: usize, rec: &[f64]) -> Option<usize>
     requires { 0 < length rec.now }
     ensures { Pushes (length rec.now) n list.old rec.now result list.new }

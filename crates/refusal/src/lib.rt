@@ -1,4 +1,4 @@
-// 01's numbers, in one table: why a call is turned back, or where a run stops. 0 is an answer with no refusal.
+// The numbers of 01 and 02, and of the exported functions, in one table: why a call is turned back, or where a run stops. 0 is an answer with no refusal.
 #![tactic(auto)]
 
 ghost use Rattle.std.specs.Prelude.{◌≡◌};

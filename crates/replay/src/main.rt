@@ -44,6 +44,7 @@ fn next_entry(file: &mut File) -> io::Result<Replayed> {
         return Ok(Replayed::Damaged);
     }
     let n = length as usize;
+    // An array of the greatest length: no replay can fail for want of memory.
     let mut space = [0u8; 65536];
     replay_next(file, &mut space[..n])
 }

@@ -1,10 +1,10 @@
 -- Words, doubles and sums one after another. Assumes nothing.
-use Rattle.std.proofs.Common.{◌≡◌, ℕ, zero, suc, ◌+◌, ◌%◌, ◌^◌, ◌<◌, ◌≤◌, Bool, true, false, not, ◌&&◌, eqb, List, [], ◌∷◌, ◌++◌, map, length, get_or, take, drop, replicate, sym, refl, ap, ◌∙◌, le_of_suc-le-suc, not-suc-le-zero, add-zero, add_assoc, add-one, arith, drop-cons}
+use Rattle.std.proofs.Common.{◌≡◌, ℕ, zero, suc, ◌+◌, ◌*◌, ◌%◌, ◌^◌, ◌<◌, ◌≤◌, Bool, true, false, not, ◌&&◌, eqb, List, [], ◌∷◌, ◌++◌, map, length, get_or, take, drop, replicate, sym, refl, ap, ◌∙◌, le_of_suc-le-suc, not-suc-le-zero, add-zero, add_assoc, add-one, arith, drop-cons}
 use mathlib.Core.Bool.{and_assoc}
 use lib.Ieee.{Float, nan, is_nan}
-use Rattle.ground.specs.Settle.{result_of}
-use Rattle.ground.specs.Settle.{Settled}
+use Rattle.ground.specs.Settle.{Result, Settled, result_of}
 use Rattle.input.specs.Input.{whole_at}
+use Rattle.input.proofs.Head.{whole_of_head}
 use Rattle.replaying.specs.declared.Sums.{Sums}
 use Rattle.replaying.specs.Replaying.{bits_of, sums_of, count_words, doubles_of, sum_words, words_of, holds, no_nan, same_of}
 
@@ -35,6 +35,16 @@ holds_append e i [] ys = rw add-zero
 holds_append e i (x ∷ xs) ys =
     let n : i + 1 + length xs ≡ i + suc (length xs) = omega arith in
     rw (holds_append e (i + 1) xs ys, n) (sym (and_assoc (eqb x (whole_at e i)) (holds e (i + 1) xs) (holds e (i + suc (length xs)) ys)))
+
+-- words that stand in the first bytes of an entry
+holds_of_head : (h : ℕ) (e : List ℕ) (i : ℕ) (ws : List ℕ) → 8 * (i + length ws) ≤ h → holds (take h e) i ws ≡ holds e i ws
+unfolding holds
+holds_of_head h e i [] l = refl
+holds_of_head h e i (w ∷ ws) l = rw (whole_of_head h i e (omega arith), holds_of_head h e (i + 1) ws (omega arith))
+
+pub same_of_head : (e : List ℕ) (r : Result) → same_of (take 200 e) r ≡ same_of e r
+unfolding same_of words_of
+same_of_head e r = rw (holds_of_head 200 e 3 (words_of r) (omega arith))
 
 -- ---- doubles
 

@@ -2,8 +2,10 @@
 use Rattle.std.specs.Prelude.{ℕ, ◌+◌, ◌-◌, ◌%◌, ◌^◌, Bool, true, cond, not, ◌&&◌, List, [], ◌∷◌, ◌++◌, map, length, drop, replicate, ◌==◌, is_nan, nat_le, to_bits, Float}
 use Rattle.std.specs.Float.{binary64}
 use Rattle.number.specs.Ops.{dec}
+use Rattle.look.specs.Rect.{sides_of}
 use Rattle.fields.specs.Fields.{state_fields}
-use Rattle.ground.specs.Settle.{Result, termination_number}
+use Rattle.ground.specs.Settle.{Result}
+use Rattle.state.specs.Numbers.{termination_number}
 use Rattle.ground.specs.Settle.{Settled}
 use Rattle.input.specs.Input.{whole_at, settle_input_of}
 use Rattle.replaying.specs.declared.Sums.{Sums}
@@ -27,7 +29,7 @@ count_words s = s.answer ∷ termination_number s.termination ∷ s.contacts ∷
 
 -- the doubles of 9 to 22: the final state's ten, the rectangle's four
 abbrev pub doubles_of : Settled → List Float
-doubles_of s = state_fields s.rest ++ (s.rect.x_lo ∷ s.rect.x_hi ∷ s.rect.z_lo ∷ s.rect.z_hi ∷ [])
+doubles_of s = state_fields s.rest ++ sides_of s.rect
 
 -- 23 and 24
 abbrev pub sum_words : List Float → List Float → List ℕ

@@ -5,7 +5,8 @@ use denote.Enum.Bare.{sameb}
 use Rattle.state.specs.contracts.Phase.{the_type}
 use Rattle.state.specs.declared.Phase.{Phase}
 use Rattle.state.specs.declared.Phase.TheVariants.{Hop, Slide, Roll}
-use Rattle.roll.specs.Roll.{whole_phase, was_phase, in_roll}
+use Rattle.state.specs.Numbers.{whole_phase}
+use Rattle.roll.specs.Roll.{was_phase, in_roll}
 
 same_phase : (a b : Phase) → sameb the_type a b ≡ eqb (whole_phase a) (whole_phase b)
 unfolding whole_phase

@@ -1,5 +1,5 @@
 -- Definitions. One pass of the ground: the body of the second loop of ground.rs, fn settle, with the tests and the count of steps that 01 adds.
-use Rattle.std.specs.Prelude.{ℕ, Bool, true, false, ◌&&◌, ◌||◌, not, eqb, Float, Option, Some, None}
+use Rattle.std.specs.Prelude.{Bool, true, false, ◌&&◌, ◌||◌, not, eqb, Float, Option, Some, None}
 use Rattle.number.specs.Ops.{◌⊖◌}
 use Rattle.number.specs.Number.{min_of}
 use Rattle.vector.specs.Vec.{zero3, same_vec}
@@ -9,6 +9,7 @@ use Rattle.aero.specs.Aero.{radius_of}
 use Rattle.contact.specs.Contact.{onto_of, sample_holds}
 use Rattle.rolling.specs.ContactStep.{contact_step_of}
 use Rattle.state.specs.declared.Phase.{Phase}
+use Rattle.state.specs.Numbers.{whole_phase}
 use Rattle.state.specs.declared.Phase.TheVariants.{Hop, Slide, Roll as InRoll}
 use Rattle.rolling.specs.declared.Stepped.{Stepped}
 use Rattle.look.specs.Tree.{Made}
@@ -36,12 +37,6 @@ unfoldable pub step_on : Conditions → Roll → Stepped
 step_on c g =
     let h = min_of c.physics.dt (c.t_end ⊖ g.state.time) in
     contact_step_of g.state g.«at» c.ball h c.physics.stop_speed c.physics.roll_threshold
-
--- 01: "phase (0 hop, 1 slide, 2 roll)"
-unfoldable pub whole_phase : Phase → ℕ
-whole_phase Hop = 0
-whole_phase Slide = 1
-whole_phase InRoll = 2
 
 -- `last_phase == Some(phase)`
 abbrev pub was_phase : Option Phase → Phase → Bool

@@ -7,7 +7,7 @@ ghost use Rattle.vector.specs.Vec.{same_vec, zero3};
 ghost use Rattle.contact.specs.Contact.{sample_holds};
 ghost use Rattle.course.specs.Sheet.{course_of};
 ghost use Rattle.tally.specs.Inner.{Bounded};
-ghost use Rattle.roll.specs.Roll.{step_on, whole_phase, point_due, held_of, put_down};
+ghost use Rattle.roll.specs.Roll.{step_on, point_due, held_of, put_down};
 ghost use Rattle.roll.specs.Inner.{RollPasses};
 
 use course::Course;
@@ -52,19 +52,11 @@ fn step_on(c: &Conditions, g: &Roll) -> Stepped
     )
 }
 
-// The phase as a number: 0 hop, 1 slide, 2 roll.
-#[tactic(auto, unfolding(crate::specs::Roll::whole_phase))]
-pub fn whole_phase(phase: Phase) -> u8
-    ensures { result ≡ whole_phase phase }
-{
-    phase as u8
-}
-
 #[tactic(auto, unfolding(crate::specs::Roll::point_due))]
 fn point_due(t: f64, next_sample: f64, last: Option<Phase>, phase: Phase) -> bool
     ensures { result ≡ point_due t next_sample last phase }
 {
-    tally::is_due(t, next_sample) || last != Some(phase)
+    tally::has_come(t, next_sample) || last != Some(phase)
 }
 
 // Whether the ball is at rest on ground that holds it.
@@ -95,7 +87,7 @@ fn put_down(c: &Conditions, g: &Roll, s: &Stepped, under: &GroundSample) -> Ball
     contact::onto_surface(s.state, *under, normal, s.rolling, c.ball.radius_m())
 }
 
-// One pass.
+// One pass. `Bounded` speaks of the conditions and the tally together, so it is asked, and no type has it.
 pub fn ground_step(
     course: &Course,
     points: &mut [f64],

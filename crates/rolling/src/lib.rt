@@ -227,7 +227,7 @@ impl RollingOn {
         self.rate_under(s, self.resistance_at(s.vel))
     }
 
-    // One RK4 step of a ball that rolls; `k1` is the first stage's rate.
+    // One RK4 step of a ball that rolls; `k1` is the first stage's rate. The rate doesn't use the time t, which is the Rust's parameter.
     fn roll_by(&self, s: Motion, t: f64, dt: f64, k1: Motion) -> Motion
         requires { k1 ≡ roll_rate (roll_patch_of self.now.patch self.now.surface) s }
         ensures { result ≡ roll_by (roll_patch_of self.now.patch self.now.surface) s t dt }
@@ -296,7 +296,7 @@ impl RollingOn {
 // 2^-61, far below the square of SLIP_EPS.
 const SLOW_SQUARED: f64 = 4.336808689942017736029811203479766845703125e-19;
 
-// The slip speed, of which `s` is the square; or 0 where `s` is so small that the speed is not above SLIP_EPS, so that no root is taken.
+// The slip speed, of which `s` is the square; or 0, a slip as good, where `s` is so small that the speed is not above SLIP_EPS, so that no root is taken.
 fn slip_root(s: f64) -> f64
     ensures { (lt slip_eps result ≡ lt slip_eps (root_of s)) × (lt slip_eps result ≡ true → result ≡ root_of s) }
 {

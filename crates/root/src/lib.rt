@@ -4,10 +4,12 @@
 ghost use Rattle.std.specs.Prelude.{◌≡◌, ◌+◌, ◌*◌, ◌<◌, ◌≤◌, true, not, T};
 ghost use Rattle.std.specs.Float.Ieee.{is_nan};
 ghost use Rattle.root.specs.Root.{root_of, hypot_of};
-ghost use Rattle.root.specs.Inner.{Near, Aligned, Radicand, RootBits, Guess};
+ghost use Rattle.root.specs.Inner.{Near, Aligned, Radicand, RootBits, SureBits};
+ghost use Rattle.std.specs.Option.{ForSome, unwrap_or};
 ghost use Rattle.root.specs.Guess.{cut_of, estimate_of, is_near, is_sure, guess_of};
 
-// The whole number nearest the root of m * 2^52, binary digit by binary digit.
+// The whole number nearest the root of m * 2^52, binary digit by binary digit. m's range is asked here and below: as a type of its own it would be
+// unpacked at each of these sums.
 fn digits(m: u64) -> u64
     requires { (4503599627370496 ≤ m) × (m < 18014398509481983) }
     ensures { Near m result }
@@ -171,7 +173,6 @@ fn aligned(b: u64) -> u64
 }
 
 // The bits of the root of the finite double above 0 with the bits b.
-
 fn positive(b: u64) -> u64
     requires { (0 < b) × (b < 9218868437227405312) }
     ensures { RootBits b result }
@@ -183,23 +184,24 @@ fn positive(b: u64) -> u64
     near(m, p) + (g / 2 - 1) * 4503599627370496
 }
 
-// The bits of the root of x, or 0: where x is no normal double above 0, or its estimate is not sure. How often that is, is not proved: `compare speed` counts it.
-pub fn guess(x: f64) -> u64
-    ensures { Guess x result × (result ≡ guess_of x) }
+// The bits of the root of x; none where x is no normal double above 0, or its estimate is not sure. How often that is, is not proved: `compare speed` counts it.
+pub fn guess(x: f64) -> Option<u64>
+    ensures sure { ForSome result (λ r. SureBits x r) }
+    ensures bits { unwrap_or result 0 ≡ guess_of x }
 {
     if x.is_nan() {
-        return 0;
+        return None;
     }
     let b = x.to_bits();
     if b < 4503599627370496 || b >= 9218868437227405312 {
-        return 0;
+        return None;
     }
     let w = estimate(x, b);
     if w.is_nan() {
-        return 0;
+        return None;
     }
     let r = w.to_bits();
-    if sure(b, r) { r } else { 0 }
+    if sure(b, r) { Some(r) } else { None }
 }
 
 // The root of any double, digit by digit at the worst.
@@ -228,8 +230,10 @@ fn exact(x: f64) -> f64
 pub fn root(x: f64) -> f64
     ensures { result ≡ root_of x }
 {
-    let r = guess(x);
-    if r != 0 { f64::from_bits(r) } else { exact(x) }
+    match guess(x) {
+        Some(r) => f64::from_bits(r),
+        None => exact(x),
+    }
 }
 
 #[tactic(auto, unfolding(crate::specs::Root::hypot_of))]

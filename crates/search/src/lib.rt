@@ -6,6 +6,9 @@ ghost use Rattle.search.specs.Search.{start, inside, in_bracket, halved_if, repl
 
 use std::ops::ControlFlow;
 
+// The most evaluations of a search.
+pub const ROOT_MAX_ITER: u64 = 200;
+
 // Residual accepted by the search.
 const ROOT_TOL: f64 = 1e-12;
 
@@ -69,6 +72,7 @@ fn is_inside(b: Bracket, x: f64) -> bool
     (b.lo < x) & (x < b.hi)
 }
 
+// Halved where the same end is replaced once more (`again`): a value, and no step to choose.
 #[tactic(auto, using(number::proofs::Steps::steps), unfolding(crate::specs::Search::halved_if))]
 fn halved_if(again: bool, f: f64) -> f64
     ensures { result ≡ halved_if again f }

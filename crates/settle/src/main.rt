@@ -16,6 +16,7 @@ fn write_answer(input: &[u8], out: &mut [u8; 128]) -> usize
 }
 
 fn main() {
+    // An array, one byte longer than the longest input: no settle can fail for want of memory.
     let mut input = [0u8; 34049];
     let n = io::read_full(0, &mut input);
     let mut out = [0u8; 128];

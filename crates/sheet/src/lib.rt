@@ -1,7 +1,7 @@
 // The course sheet (01, "Course sheet"): its numbers, read from bytes, and the tests 1 to 3.
 #![tactic(auto)]
 
-ghost use Rattle.std.specs.Prelude.{◌≡◌, true, not, ℕ, ◌+◌, ◌*◌, ◌≤◌, ◌<◌, length, T};
+ghost use Rattle.std.specs.Prelude.{◌≡◌, true, not, ℕ, ◌+◌, ◌*◌, ◌≤◌, ◌<◌, length, T, IfOk};
 ghost use Rattle.std.specs.Float.{binary64};
 ghost use Rattle.std.specs.Float.Ieee.{nan_bits};
 ghost use Rattle.sheet.specs.Sheet.{surfaces, field, real, header_ok, restitution_ok, law_ok, surface_ok, edges_ok, patch_ok, all, answer_of, patches, Accepted, restitution_of, law_of, surface_of};
@@ -12,7 +12,7 @@ use refusal::Refusal;
 use std::marker::Model;
 use surface::{Restitution, RollLaw, Surface};
 
-// Field j of record i.
+// Field j of record i. The tests read records before there is a Sheet, so the readers ask for room.
 pub fn whole(s: &[u8], i: usize, j: usize) -> u64
     requires { (80 + 64 * i ≤ length s.now) × (j < 8) }
     ensures { result ≡ field s.now i j }
@@ -20,6 +20,7 @@ pub fn whole(s: &[u8], i: usize, j: usize) -> u64
     octets::word(s, 16 + 8 * (8 * i + j))
 }
 
+// The same, as a double.
 pub fn double(s: &[u8], i: usize, j: usize) -> f64
     requires { (80 + 64 * i ≤ length s.now) × (j < 8) }
     ensures { result ≡ real s.now i j }
@@ -78,7 +79,7 @@ fn law_ok(law: u64, v_ref: f64) -> bool
     }
 }
 
-// The restitution of a kind that passed its test.
+// The restitution of a kind that passed its test. A look reads a surface of a sheet that was tested once; one function for test and value would test at each look.
 #[tactic(auto, unfolding(crate::specs::Sheet::restitution_of))]
 fn restitution_of(kind: u64, e: f64) -> Restitution
     ensures { result ≡ restitution_of kind e }
@@ -89,7 +90,7 @@ fn restitution_of(kind: u64, e: f64) -> Restitution
     }
 }
 
-// The roll law of a number that passed its test.
+// The roll law of a number that passed its test; apart from it as the restitution is.
 #[tactic(auto, unfolding(crate::specs::Sheet::law_of))]
 fn law_of(law: u64, v_ref: f64) -> RollLaw
     ensures { result ≡ law_of law v_ref }
@@ -188,6 +189,16 @@ impl<'a> Model for Sheet<'a> {
 }
 
 impl<'a> Sheet<'a> {
+    // The sheet of these bytes, or the first of the tests 1 to 3 that they fail.
+    pub fn checked(bytes: &'a [u8]) -> Result<Self, Refusal>
+        ensures answer { answer_by result ≡ answer_of bytes.now }
+        ensures sheet { IfOk result (λ s. s ≡ bytes.now) }
+    {
+        check_sheet(bytes)?;
+        Ok(Sheet::accepted(bytes))
+    }
+
+    // Of bytes that passed the tests 1 to 3. A settle and an aim make the tests with those of their other arguments, and the course once all have passed.
     pub fn accepted(bytes: &'a [u8]) -> Self
         requires { Accepted bytes.now }
         ensures { result ≡ bytes.now }
@@ -217,7 +228,8 @@ impl<'a> Sheet<'a> {
         self.patch_count
     }
 
-    // A number of the patch that is record i: an edge, the height or a slope.
+    // A number of the patch that is record i: an edge, the height or a slope. That record i is a patch is asked here, and in the crates index and course: it
+    // speaks of the sheet and of i.
     pub fn patch_number(&self, i: usize, j: usize) -> f64
         requires patch { (surfaces self.now ≤ i) × (i < surfaces self.now + patches self.now) }
         requires number { j < 7 }

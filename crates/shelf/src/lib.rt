@@ -3,14 +3,13 @@
 
 ghost use Rattle.std.specs.Prelude.{◌≡◌, ◌≤◌, length, position};
 ghost use Rattle.refusal.specs.Refusal.{number_of, answer_by};
-ghost use Rattle.shelf.specs.Map.{is_letter, letters, name_ok, same, zero_state};
+ghost use Rattle.shelf.specs.Map.{is_letter, letters, name_ok, same};
 ghost use Rattle.shelf.specs.Shelf.{packed, empty_place, empty_shelf, has, saved, replaced, kept, save_of, returned_by, return_of, drop_of, padded, sound_name, sound_place, sound};
 
 use refusal::Refusal;
 use state::BallState;
-use vector::DVec3;
 
-// The name of a free place.
+// The name of a free place, and no Option: C lends a place as 23 doubles, of which a length of 0 says that it is free.
 const FREE: [u8; 13] = [0; 13];
 
 // A place: a name's length and its 12 bytes, those past its length 0, and the state kept under it. A length of 0 is a free place. Arrays, since the
@@ -77,23 +76,12 @@ fn has(places: &[Place], name: &[u8; 13]) -> bool
     places.iter().any(|p| has_name(p, name))
 }
 
-fn zero_state() -> BallState
-    ensures { result ≡ zero_state }
-{
-    BallState {
-        time: 0.0,
-        pos: DVec3::ZERO,
-        vel: DVec3::ZERO,
-        spin: DVec3::ZERO,
-    }
-}
-
 fn empty_place() -> Place
     ensures { result ≡ empty_place }
 {
     Place {
         name: FREE,
-        state: zero_state(),
+        state: BallState::ZERO,
     }
 }
 
@@ -203,6 +191,7 @@ impl Shelf {
         ensures { result ≡ sound self.now.places }
     {
         let mut rest = &self.places[..];
+        // Each place with those after it, as the definition goes along the list: an iterator doesn't hand over the rest, and `all` over indices would count them.
         'places: while let Some((p, later)) = rest.split_first() {
             if !place_sound(p, later) {
                 return false;

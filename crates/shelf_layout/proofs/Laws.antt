@@ -1,18 +1,17 @@
 -- Lemmas. Doubles read and written one after another. Assumes nothing.
-use Prim.Native.Nat.{ℕ, suc, ◌+◌, ◌-◌, ◌*◌, ◌≤◌, ◌<◌}
+use Prim.Native.Nat.{ℕ, ◌+◌, ◌*◌, ◌≤◌, ◌<◌}
 use native.Mathlib.Omega.{arith}
-use native.Mathlib.Nat.{add_assoc}
 use native.Mathlib.Numerals.{add-one}
 use mathlib.Core.Path.{◌≡◌, refl, ap, ◌∙◌, sym}
-use mathlib.Core.Bool.{Bool, true, false, cond, ◌&&◌}
+use mathlib.Core.Bool.{Bool, true, false, cond}
 use Rattle.std.specs.Prelude.{Result, Ok, Err}
 use Rattle.refusal.specs.declared.Refusal.TheVariants.{NotHeld}
 use Rattle.state.specs.declared.BallState.{BallState}
-use mathlib.Core.List.{List, [], ◌∷◌, ◌++◌, map, append_assoc, append-nil}
-use lib.Ieee.{Float, nan}
-use lib.ListN.{length, take, drop, get_or, set, length-append, drop_of_length-le}
-use lib.Seq.{drop-cons, drop-drop, take-suc-set, take_all, append_snoc, get_or-drop}
-use Rattle.fields.specs.Fields.{whole_of, vec_at, state_at, state_fields, written}
+use mathlib.Core.List.{List, [], ◌++◌, map, append_assoc, append-nil}
+use lib.Ieee.{Float}
+use lib.ListN.{length, take, drop, get_or, length-append, drop_of_length-le}
+use lib.Seq.{drop-cons, take_all}
+use Rattle.fields.specs.Fields.{whole_of, state_at, state_fields, written}
 use Rattle.fields.proofs.Written.{take_written, length_written, written_on}
 use borrow.Author.Tests.{eq-eqb, ne_eqb}
 use Rattle.refusal.specs.declared.Refusal.{Refusal}
@@ -23,78 +22,10 @@ use Rattle.shelf.specs.declared.Shelf.{Shelf}
 use Rattle.shelf.specs.Answers.{Saved}
 use Rattle.shelf.specs.Shelf.{saved, returned, save_of, return_of, drop_of}
 use Rattle.shelf_layout.specs.Doors.{answered, changed, held_of, shelf_save_door_of, shelf_return_door_of, shelf_drop_door_of}
-use Rattle.shelf_layout.specs.Layout.{byte_of, place_at, places_at, are_bytes, names_ok, place_fields, places_fields, shelf_fields, shelf_at, shelf_ok, Wrote}
-
--- one element more
-added : {A : Type 0} (out rest : List A) (i : ℕ) (a : A) → i < length out → take (i + 1) (set out i a) ++ rest ≡ take i out ++ (a ∷ rest)
-added out rest i a h = rw (add-one, take-suc-set out i a h, append_snoc)
+use Rattle.shelf_layout.specs.Layout.{place_fields, places_fields, shelf_fields, shelf_at, shelf_ok, Wrote}
 
 ended : {A : Type 0} (out w : List A) (i : ℕ) → length out ≤ i → take i out ++ [] ≡ w → out ≡ w
 ended out w i h left = sym (append-nil (take i out) ∙ take_all i out h) ∙ left
-
--- ---- n doubles from o on, at the double i
-module _ (l : List Float) (o n i : ℕ) (h : i < n) (k : o + n ≤ length l) where
-  pub ahead : take (n - i) (drop (o + i) l) ≡ get_or l (o + i) nan ∷ take (n - (i + 1)) (drop (o + (i + 1)) l)
-  ahead =
-      let e : n - i ≡ suc (n - (i + 1)) = omega arith in
-      let f : o + (i + 1) ≡ suc (o + i) = omega arith in
-      let j : o + i < length l = omega arith in
-      rw (e, f, drop-cons l (o + i) nan j)
-
-  pub read_on : (out : List ℕ) (w : List ℕ) (b : ℕ) → b ≡ byte_of (get_or l (o + i) nan) → i < length out
-      → take i out ++ map byte_of (take (n - i) (drop (o + i) l)) ≡ w
-      → take (i + 1) (set out i b) ++ map byte_of (take (n - (i + 1)) (drop (o + (i + 1)) l)) ≡ w
-  read_on out w b e j left = added out _ i b j ∙ rw e (rw ahead at left)
-
-module _ (l : List Float) (o n i : ℕ) (h : n ≤ i) where
-  none : n - i ≡ 0
-  none = omega arith
-
-  pub read_end : (out w : List ℕ) → length out ≡ n → take i out ++ map byte_of (take (n - i) (drop (o + i) l)) ≡ w → out ≡ w
-  read_end out w k left = ended out w i (omega arith) (rw none at left)
-
--- a state further on
-pub state_on : (l : List Float) (o : ℕ) → state_at l (o + 13) ≡ state_at (drop o l) 13
-unfolding state_at vec_at
-state_on l o = simp (get_or-drop, add_assoc)
-
--- ---- 16 places
-module _ (l : List Float) (i : ℕ) (h : i < 16) where
-  pub beyond : drop 23 (drop (23 * i) l) ≡ drop (23 * (i + 1)) l
-  beyond = drop-drop 23 (23 * i) l ∙ ap (λ (n : ℕ). drop n l) (let e : 23 * i + 23 ≡ 23 * (i + 1) = omega arith in e)
-
-  less : 16 - i ≡ suc (16 - (i + 1))
-  less = omega arith
-
-  pub place_on : (out : List Place) (w : List Place) (p : Place) → p ≡ place_at (drop (23 * i) l) → i < length out
-      → take i out ++ places_at (16 - i) (drop (23 * i) l) ≡ w → take (i + 1) (set out i p) ++ places_at (16 - (i + 1)) (drop (23 * (i + 1)) l) ≡ w
-  unfolding places_at
-  place_on out w p e j left = added out _ i p j ∙ rw e (rw (less, beyond) at left)
-
-  pub names_on : (t b : Bool) → b ≡ are_bytes (take 13 (drop (23 * i) l)) → names_ok (16 - i) (drop (23 * i) l) ≡ t
-      → b && names_ok (16 - (i + 1)) (drop (23 * (i + 1)) l) ≡ t
-  unfolding names_ok
-  names_on t b e left = rw e (rw (less, beyond) at left)
-
-module _ (l : List Float) (i : ℕ) (h : 16 ≤ i) where
-  past : 16 - i ≡ 0
-  past = omega arith
-
-  pub place_end : (out w : List Place) → length out ≡ 16 → take i out ++ places_at (16 - i) (drop (23 * i) l) ≡ w → out ≡ w
-  unfolding places_at
-  place_end out w k left = ended out w i (omega arith) (rw past at left)
-
-  pub names_end : (t : Bool) → names_ok (16 - i) (drop (23 * i) l) ≡ t → true ≡ t
-  unfolding names_ok
-  names_end t left = rw past at left
-
--- ---- bytes as doubles
-pub number_on : (out : List Float) (ns : List ℕ) (i : ℕ) (a : Float) (w : List Float) → a ≡ whole_of (get_or ns i 0) → i < length ns → i < length out
-    → take i out ++ map whole_of (drop i ns) ≡ w → take (i + 1) (set out i a) ++ map whole_of (drop (i + 1) ns) ≡ w
-number_on out ns i a w e j k left = added out _ i a k ∙ rw (e, add-one) (rw (drop-cons ns i 0 j) at left)
-
-pub number_end : (out : List Float) (ns : List ℕ) (i : ℕ) (w : List Float) → length out ≤ i → length ns ≤ i → take i out ++ map whole_of (drop i ns) ≡ w → out ≡ w
-number_end out ns i w h k left = ended out w i h (rw (drop_of_length-le ns {i = i} k) at left)
 
 -- ---- written
 pub place_written : {l m₁ m : List Float} {at : ℕ} (p : Place) → at + 23 ≤ length l → Wrote l at (map whole_of p.name) 13 m₁

@@ -1,7 +1,7 @@
 // A shelf as 368 doubles, 16 places of 23, and the shelf's functions on such a list.
 #![tactic(auto)]
 
-ghost use Rattle.std.specs.Prelude.{◌≡◌, ◌+◌, ◌≤◌, map, length, take, drop};
+ghost use Rattle.std.specs.Prelude.{◌≡◌, ◌+◌, ◌≤◌, map, length, take};
 ghost use Rattle.refusal.specs.Refusal.{answer_by};
 ghost use Rattle.fields.specs.Fields.{whole_of};
 ghost use Rattle.shelf_layout.specs.Layout.{byte_of, place_at, places_at, shelf_at, are_bytes, names_ok, shelf_ok, place_fields, places_fields, Wrote};
@@ -11,6 +11,8 @@ use fields::{is_whole, nat_of};
 use refusal::Refusal;
 use shelf::{Place, Shelf};
 
+// The doubles of a place.
+const PLACE_LENGTH: usize = 23;
 // The doubles of a shelf.
 const SHELF_LENGTH: usize = 368;
 
@@ -19,40 +21,30 @@ const SHELF_LENGTH: usize = 368;
 fn byte_of(x: f64) -> u8
     ensures { result ≡ byte_of x }
 {
-    let n = nat_of(x);
-    if n <= 255 { n as u8 } else { 0 }
+    u8::try_from(nat_of(x)).unwrap_or(0)
 }
 
-// The 13 bytes of a name from `o` on.
-fn name_at(l: &[f64], o: usize) -> [u8; 13]
-    requires { o + 13 ≤ length l.now }
-    ensures { result ≡ map byte_of (take 13 (drop o l.now)) }
+// The 13 bytes of a place's name.
+fn name_at(l: &[f64; PLACE_LENGTH]) -> [u8; 13]
+    ensures { result ≡ map byte_of (take 13 l.now) }
 {
-    let mut out = [0u8; 13];
-    for i in 0..13 {
-        out[i] = byte_of(l[o + i]);
-    }
-    out
+    std::array::from_fn(|i| byte_of(l[i]))
 }
 
-fn place_at(l: &[f64], o: usize) -> Place
-    requires { o + 23 ≤ length l.now }
-    ensures { result ≡ place_at (drop o l.now) }
+fn place_at(l: &[f64; PLACE_LENGTH]) -> Place
+    ensures { result ≡ place_at l.now }
 {
     Place {
-        name: name_at(l, o),
-        state: fields::state_at(l, o + 13),
+        name: name_at(l),
+        state: fields::state_at(l, 13),
     }
 }
 
 fn places_at(l: &[f64; SHELF_LENGTH]) -> [Place; 16]
     ensures { result ≡ places_at 16 l.now }
 {
-    let mut out = [place_at(l, 0); 16];
-    for i in 0..16 {
-        out[i] = place_at(l, 23 * i);
-    }
-    out
+    let (held, _) = l.as_chunks::<PLACE_LENGTH>();
+    std::array::from_fn(|i| place_at(&held[i]))
 }
 
 // Whether the doubles are bytes.
@@ -65,13 +57,8 @@ fn are_bytes(l: &[f64]) -> bool
 fn names_ok(l: &[f64; SHELF_LENGTH]) -> bool
     ensures { result ≡ names_ok 16 l.now }
 {
-    for i in 0..16 {
-        let at = 23 * i;
-        if !are_bytes(&l[at..at + 13]) {
-            return false;
-        }
-    }
-    true
+    let (held, _) = l.as_chunks::<PLACE_LENGTH>();
+    held.iter().all(|p| are_bytes(&p[..13]))
 }
 
 // The shelf that the doubles are.
@@ -91,13 +78,10 @@ fn held_in(l: &[f64; SHELF_LENGTH]) -> Result<Shelf, Refusal>
 fn name_numbers(name: &[u8; 13]) -> [f64; 13]
     ensures { result ≡ map whole_of name.now }
 {
-    let mut out = [0.0; 13];
-    for i in 0..13 {
-        out[i] = fields::whole(name[i] as u64);
-    }
-    out
+    name.map(|b| fields::whole(u64::from(b)))
 }
 
+// At an index: the library's as_chunks_mut says nothing of what the list holds afterwards.
 fn write_place(out: &mut [f64], at: usize, p: &Place)
     requires { at + 23 ≤ length out.old }
     ensures { Wrote out.old «at» (place_fields p.now) 23 out.new }
@@ -111,7 +95,7 @@ fn write_shelf(out: &mut [f64; SHELF_LENGTH], places: &[Place; 16])
     ensures { out.new ≡ places_fields places.now }
 {
     for i in 0..16 {
-        write_place(out, 23 * i, &places[i]);
+        write_place(out, PLACE_LENGTH * i, &places[i]);
     }
 }
 

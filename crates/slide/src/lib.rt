@@ -17,9 +17,6 @@ pub const SLIP_EPS: f64 = 1e-9;
 // Smallest slip speed at which a slide on a slope switches to a fixed slip direction.
 const MIN_SWITCH_SLIP: f64 = 1e-6;
 
-// Most evaluations of a search.
-const ROOT_MAX_ITER: u64 = 200;
-
 // The forces on a ball on one ground sample, per unit mass.
 #[derive(Clone, Copy)]
 pub struct Patch {
@@ -92,7 +89,7 @@ impl Patch {
         }
     }
 
-    // One RK4 slide step of length `h` along the fixed slip direction `u_hat`.
+    // One RK4 slide step of length `h` along the fixed slip direction `u_hat`. The time t is the Rust's parameter, which no rate uses.
     pub fn slide_fixed(self, s: Motion, t: f64, h: f64, u_hat: DVec3) -> Motion
         ensures { result ≡ slide_fixed self s t h u_hat }
     {
@@ -121,7 +118,8 @@ impl Patch {
         self.slide_rate(s, fallback)
     }
 
-    // One RK4 slide step of length `h`, with the slip direction evaluated at every stage; `k1` is the first stage's rate.
+    // One RK4 slide step of length `h`, with the slip direction evaluated at every stage; `k1` is the first stage's rate. The rate doesn't use the time t,
+    // which is the Rust's parameter.
     fn slide_turning(self, s: Motion, t: f64, h: f64, fallback: DVec3, k1: Motion) -> Motion
         requires { k1 ≡ turning_rate self fallback s }
         ensures { result ≡ slide_turning self s t h fallback }
@@ -229,12 +227,13 @@ impl SlopeSlide {
         self.turning.patch.slip_speed(self.turned_at(tau)) - threshold
     }
 
-    // The time at which the slip falls to the threshold, and the evaluations made, at most 200.
+    // The time at which the slip falls to the threshold, and the evaluations made, at most 200. A hop has this loop too, over looks that may stop it
+    // (find_root of the crate arrival).
     fn time_at_threshold(&self, threshold: f64, b: Bracket, guess: f64) -> Root
         ensures { (result.x, result.evaluations) ≡ find_root counting (counted (above_of self.now.turning threshold)) b guess }
     {
         let mut s = search::start_search(b, guess);
-        for made in 0..ROOT_MAX_ITER {
+        for made in 0..search::ROOT_MAX_ITER {
             let x = search::in_bracket(s);
             match search::narrow(s, x, self.above(threshold, x)) {
                 ControlFlow::Continue(next) => s = next,
@@ -248,7 +247,7 @@ impl SlopeSlide {
         }
         Root {
             x: s.bracket.hi,
-            evaluations: ROOT_MAX_ITER,
+            evaluations: search::ROOT_MAX_ITER,
         }
     }
 

@@ -2,6 +2,7 @@
 #![tactic(auto)]
 
 ghost use Rattle.std.specs.Prelude.{◌≡◌};
+ghost use Rattle.state.specs.Numbers.{whole_phase, phase_number, termination_number};
 ghost use Rattle.state.specs.State.{coord_ok, vec_ok, state_ok};
 
 use vector::DVec3;
@@ -32,12 +33,43 @@ pub enum Phase {
     Roll = 2,
 }
 
+impl From<Phase> for u8 {
+    ghost from_gives = { λ phase n. n ≡ whole_phase phase };
+
+    #[tactic(auto, unfolding(crate::specs::Numbers::whole_phase))]
+    fn from(phase: Phase) -> u8 {
+        phase as u8
+    }
+}
+
+// As the lists have it.
+impl From<Phase> for f64 {
+    ghost from_gives = { λ phase x. x ≡ phase_number phase };
+
+    #[tactic(auto, using(number::proofs::Steps::steps))]
+    fn from(phase: Phase) -> f64 {
+        match phase {
+            Phase::Hop => 0.0,
+            Phase::Slide => 1.0,
+            Phase::Roll => 2.0,
+        }
+    }
+}
+
 // How a settle ended; of one that did not, there is none.
 #[derive(Clone, Copy, PartialEq, Eq)]
 pub enum Termination {
     Rest = 1,
     MaxTime = 2,
     MaxImpacts = 3,
+}
+
+// What results and entries have of a settle's end: 0 where there is none. No From, since Option is the library's.
+#[tactic(auto, unfolding(crate::specs::Numbers::termination_number))]
+pub fn termination_number(end: Option<Termination>) -> u32
+    ensures { result ≡ termination_number end }
+{
+    end.map_or(0, |t| t as u32)
 }
 
 // A number of a state or of a spot.

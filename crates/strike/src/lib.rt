@@ -66,7 +66,7 @@ fn dies_out(c: &Conditions, state: &BallState, hit: &Struck, arrival: &BallState
     )
 }
 
-// Where the hop came to; nothing where the ball drops to the ground here.
+// Where the hop came to; nothing where the ball drops to the ground here, as it does where it doesn't rebound (`hops`, as the definition has it).
 pub fn fly(
     course: &Course,
     points: &mut [f64],
@@ -111,18 +111,12 @@ fn leave_of(c: &Conditions, hit: &Struck) -> BallState
     if contact::slip(vel, out.spin, n, radius).length() <= c.physics.roll_threshold {
         let locked = contact::lock_rolling(vel, out.spin, n, radius, c.ball.inertia_factor);
         BallState {
-            time: out.time,
-            pos: out.pos,
             vel: locked.vel,
             spin: locked.spin,
+            ..*out
         }
     } else {
-        BallState {
-            time: out.time,
-            pos: out.pos,
-            vel,
-            spin: out.spin,
-        }
+        BallState { vel, ..*out }
     }
 }
 

@@ -101,6 +101,7 @@ impl RollLaw {
 }
 
 impl Surface {
+    // These two and their functions are under the Rust's names.
     pub const FAIRWAY: Surface = Surface {
         restitution: Restitution::Penner2002,
         mu_slide: 0.40,

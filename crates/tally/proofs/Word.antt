@@ -1,5 +1,5 @@
 -- Lemmas: each word of the code does what the word of the definition does.
-use Rattle.std.proofs.Common.{◌≡◌, ℕ, ◌+◌, ◌*◌, ◌/◌, ◌≤◌, Bool, true, false, List, length, sym, refl, ap, ◌∙◌, arith}
+use Rattle.std.proofs.Common.{◌≡◌, ℕ, ◌≤◌, Bool, true, false, List, length, refl, arith}
 use lib.Ieee.{Float}
 use Rattle.state.specs.State.{state_ok}
 use Rattle.state.specs.declared.BallState.{BallState}
@@ -7,15 +7,14 @@ use Rattle.state.specs.declared.Phase.{Phase}
 use Rattle.surface.specs.declared.GroundSample.{GroundSample}
 use Rattle.look.specs.Tree.{Look, Oracle, exec, did, look_tree}
 use Rattle.look.proofs.Tree.{ends}
-use Rattle.look.specs.declared.Rect.{Rect}
+use Rattle.look.specs.Rect.{Rect}
 use Rattle.records.specs.Records.{Pushes}
 use Rattle.refusal.specs.declared.Refusal.{Refusal}
-use Rattle.refusal.specs.declared.Refusal.TheVariants.{OutOfRange, PointsFull, ContactsFull}
-use Rattle.refusal.specs.Refusal.{number_of}
-use Rattle.std.specs.Prelude.{Option, Some, None, Result, Ok, Err, ok_or}
-use Rattle.tally.specs.Language.{M, Outcome, goes, stops, ran, when, point_width, contact_width, point_of, contact_of, seen_at, look}
+use Rattle.refusal.specs.declared.Refusal.TheVariants.{OutOfRange}
+use Rattle.std.specs.Prelude.{Option, Some, None, Ok, Err, ok_or}
+use Rattle.tally.specs.Language.{M, Outcome, goes, stops, when, point_width, contact_width, point_of, contact_of, seen_at, look}
 use Rattle.std.specs.Prelude.{if◌then◌else◌}
-use Rattle.tally.specs.Language.{test, put_point, push_point, push_contact}
+use Rattle.tally.specs.Language.{test, put_point, push_contact}
 use Rattle.tally.specs.Inner.{place, RunsBy, Runs, Looks, Searches, PushesIf, outcome_by, with_rect, with_search, with_contacts, with_points}
 use Rattle.tally.specs.Lists.{stay, pushed_grown, full_grown}
 use Rattle.tally.specs.declared.Tally.{Tally}

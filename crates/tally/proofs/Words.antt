@@ -1,19 +1,17 @@
 -- Lemmas. How the parts of a settle run one after another: the laws that the proofs of the code are made of.
-use Rattle.std.specs.Prelude.{◌≡◌, ℕ, zero, suc, ◌-◌, Bool, true, false, List, length, take, Float, Some, None}
-use Rattle.std.proofs.Common.{arith, ap, ◌∙◌, sym}
+use Rattle.std.specs.Prelude.{◌≡◌, ℕ, zero, suc, ◌-◌, Bool, true, false, length, take, Float, Some, None}
+use Rattle.std.proofs.Common.{ap}
 use Rattle.std.proofs.Math.Path.{refl}
 use Rattle.state.specs.declared.BallState.{BallState}
 use Rattle.surface.specs.declared.GroundSample.{GroundSample}
-use Rattle.state.specs.declared.Phase.{Phase}
 use Rattle.look.specs.Tree.{Look, bind, Oracle, exec, did, Did, look_tree}
 use Rattle.look.proofs.Tree.{ends}
-use Rattle.look.specs.declared.Rect.{Rect}
-use Rattle.records.specs.Records.{Put, full, put, pushed, as_put, recs}
+use Rattle.look.specs.Rect.{Rect}
 use Rattle.tally.specs.declared.Conditions.{Conditions}
 use Rattle.tally.specs.Inner.{over_by}
 use Rattle.state.specs.State.{state_ok}
-use Rattle.tally.specs.Language.{M, Ran, ran, Log, Outcome, goes, stops, onward, ◌>>=◌, when, point_of, contact_of, seen_at, stepped, tested}
-use Rattle.tally.specs.Language.{with_points, with_contacts, push_contact, make_step, look, test, push_point, mark, truncate, steps_left, Pass, again}
+use Rattle.tally.specs.Language.{M, Ran, ran, Log, Outcome, goes, stops, onward, ◌>>=◌, seen_at, tested}
+use Rattle.tally.specs.Language.{with_points, look, test, mark, truncate, steps_left, Pass, again}
 use Rattle.tally.specs.Language.{loop}
 
 module _ {A B : Type 0} (o : Oracle) (q : Rect) (m : M A) (k : A → M B) (l : Log) {x : Outcome A} {l' : Log} {q' : Rect} where

@@ -5,9 +5,8 @@ use Rattle.std.specs.declared.ops.ControlFlow.TheVariants.{Continue, Break}
 use Rattle.state.specs.declared.BallState.{BallState}
 use Rattle.state.specs.declared.Phase.{Phase}
 use Rattle.surface.specs.declared.GroundSample.{GroundSample}
-use Rattle.look.specs.Rect.{no_rect}
+use Rattle.look.specs.Rect.{Rect, no_rect}
 use Rattle.look.specs.Tree.{Made, Oracle, exec, did}
-use Rattle.look.specs.declared.Rect.{Rect}
 use Rattle.records.specs.Records.{recs, zeroed, Clean}
 use Rattle.tally.specs.Language.{M, Lent, Log, Outcome, goes, stops, ran, Pass, again, over, when, point_width, contact_width, evaluated, make_step, look, test}
 use Rattle.tally.specs.declared.Conditions.{Conditions}

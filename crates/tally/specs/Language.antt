@@ -2,11 +2,11 @@
 use Rattle.std.specs.Prelude.{ℕ, zero, suc, ◌+◌, ◌-◌, Bool, true, false, List, [], ◌∷◌, length, take, pos, Float, Some, None}
 use Rattle.std.specs.Float.Ieee.{of_int}
 use Rattle.std.specs.Float.{binary64}
-use Rattle.number.specs.Ops.{◌⊖◌, dec}
+use Rattle.number.specs.Ops.{◌⊖◌}
 use Rattle.state.specs.declared.BallState.{BallState}
 use Rattle.surface.specs.declared.GroundSample.{GroundSample}
 use Rattle.state.specs.declared.Phase.{Phase}
-use Rattle.state.specs.declared.Phase.TheVariants.{Hop, Slide, Roll}
+use Rattle.state.specs.Numbers.{phase_number}
 use Rattle.search.specs.Search.{Does}
 use Rattle.state.specs.State.{state_ok}
 use Rattle.look.specs.Tree.{Look, Made, Tree, done, step, bind, look_tree}
@@ -72,12 +72,6 @@ unfoldable pub when : Bool → M Unit → M Unit
 when b m = if b then m else pure tt
 
 -- ---- records
-
--- 01: "phase (0 hop, 1 slide, 2 roll)"
-abbrev pub phase_number : Phase → Float
-phase_number Hop = dec 0 1
-phase_number Slide = dec 1 1
-phase_number Roll = dec 2 1
 
 -- the numbers of a point and of a contact. 02, paper 12: "number 8 now counts points by twelve"; 01: "20 a record"
 abbrev pub point_width : ℕ

@@ -11,13 +11,17 @@ time_eps = dec 1 1000000000
 abbrev pub sample_interval : Float
 sample_interval = dec 1 100
 
+-- whether a time has come, within TIME_EPS
+unfoldable pub has_come : Float → Float → Bool
+has_come t mark = le (mark ⊖ time_eps) t
+
 -- ground.rs, fn hop and fn settle: `t >= t_end - TIME_EPS`
-unfoldable pub is_late : Float → Float → Bool
-is_late t t_end = le (t_end ⊖ time_eps) t
+abbrev pub is_late : Float → Float → Bool
+is_late t t_end = has_come t t_end
 
 -- ground.rs, fn hop and fn settle: `t >= next_sample - TIME_EPS`
-unfoldable pub is_due : Float → Float → Bool
-is_due t next = le (next ⊖ time_eps) t
+abbrev pub is_due : Float → Float → Bool
+is_due t next = has_come t next
 
 -- the next sample time: one interval past `from` if a sample was due, else as before
 unfoldable pub next_after : Bool → Float → Float → Float

@@ -4,8 +4,8 @@
 ghost use Rattle.std.specs.Prelude.{◌≡◌, ◌+◌, ◌*◌, ◌<◌, ◌≤◌, length};
 ghost use Rattle.course.specs.Sheet.{course_of};
 ghost use Rattle.records.specs.Records.{Pushes};
-ghost use Rattle.tally.specs.Times.{is_late, is_due, next_after};
-ghost use Rattle.tally.specs.Language.{phase_number, point_width, contact_width, point_of, contact_of};
+ghost use Rattle.tally.specs.Times.{has_come, next_after};
+ghost use Rattle.tally.specs.Language.{point_width, contact_width, point_of, contact_of};
 ghost use Rattle.tally.specs.Inner.{first_tally, MakesStep, LooksAt, Tests, PushesPoint, PushesIf, PushesContact, Truncates};
 
 use aero::BallModel;
@@ -18,7 +18,8 @@ use surface::GroundSample;
 
 const TIME_EPS: f64 = 1e-9;
 
-const SAMPLE_INTERVAL: f64 = 0.01;
+// From one sample point to the next.
+pub const SAMPLE_INTERVAL: f64 = 0.01;
 
 // The numbers of a point.
 pub const POINT_WIDTH: usize = 12;
@@ -26,7 +27,7 @@ pub const POINT_WIDTH: usize = 12;
 // The numbers of a contact.
 pub const CONTACT_WIDTH: usize = 20;
 
-// What stays the same throughout one settle.
+// What stays the same throughout one settle. Not a Shot beside t_end: the passes have no landing to read.
 #[derive(Clone, Copy)]
 pub struct Conditions {
     pub physics: GroundPhysics,
@@ -39,18 +40,11 @@ pub struct Conditions {
 
 // ---- times
 
-#[tactic(auto, unfolding(crate::specs::Times::is_late))]
-pub fn is_late(t: f64, t_end: f64) -> bool
-    ensures { result ≡ is_late t t_end }
+// Whether the time `mark` has come at t: the end's, or a sample point's.
+pub fn has_come(t: f64, mark: f64) -> bool
+    ensures { result ≡ has_come t mark }
 {
-    t >= t_end - TIME_EPS
-}
-
-#[tactic(auto, unfolding(crate::specs::Times::is_due))]
-pub fn is_due(t: f64, next: f64) -> bool
-    ensures { result ≡ is_due t next }
-{
-    t >= next - TIME_EPS
+    t >= mark - TIME_EPS
 }
 
 // The time of the next sample point: one interval past `from` if one was due, else as before.
@@ -62,16 +56,6 @@ pub fn next_after(due: bool, next: f64, from: f64) -> f64
 }
 
 // ---- the records of the two lists
-
-fn phase_number(phase: Phase) -> f64
-    ensures { result ≡ phase_number phase }
-{
-    match phase {
-        Phase::Hop => 0.0,
-        Phase::Slide => 1.0,
-        Phase::Roll => 2.0,
-    }
-}
 
 fn write_point(
     points: &mut [f64],
@@ -94,7 +78,7 @@ fn write_point(
         s.spin.x,
         s.spin.y,
         s.spin.z,
-        phase_number(phase),
+        f64::from(phase),
         p.y - height,
     ];
     records::push(points, n, &rec)
@@ -137,7 +121,8 @@ fn write_contact(
 // ---- the tally
 
 // The steps made, the evaluations of their root searches, the contacts and points pushed, the last state that passed its test, the rectangle
-// of the looks. A word that stops a run gives its refusal: 20 to 22.
+// of the looks. A word that stops a run gives its refusal: 20 to 22. The lists are lent beside it: as fields they would ask for a clause at each
+// function that they are still those that were lent.
 #[derive(Clone, Copy)]
 pub struct Tally {
     pub steps: u64,
@@ -159,7 +144,7 @@ impl Tally {
             contacts: 0,
             points: 0,
             good: *landing,
-            rect: look::no_rect(),
+            rect: Rect::new(),
         }
     }
 
@@ -206,7 +191,7 @@ impl Tally {
         Ok(())
     }
 
-    // A point, if it is due.
+    // A point, if it is due: `when due` of the definitions.
     pub fn push_due(
         &mut self,
         due: bool,

@@ -6,7 +6,8 @@ ghost use Rattle.text.specs.Text.{Adds, Puts, Fills, blanks, decimal_of, signed_
 
 use state::Termination;
 
-// Writes the word from `at` on, and gives the place after it.
+// Writes the word from `at` on, and gives the place after it. The page and the place stay two: a struct with a lent page in it would need a clause at
+// each function that its page is still the one that was lent.
 pub fn put(out: &mut [u8], at: usize, word: &[u8]) -> usize
     requires { at + length word.now ≤ length out.old }
     ensures { Adds out.old at word.now result out.new }
@@ -16,7 +17,7 @@ pub fn put(out: &mut [u8], at: usize, word: &[u8]) -> usize
     end
 }
 
-// Writes n in decimal.
+// Writes n in decimal. Its digits stand in an array: what prints asks for no memory.
 pub fn put_number(out: &mut [u8], at: usize, n: u64) -> usize
     requires { at + 20 ≤ length out.old }
     ensures { Puts 20 out.old at (decimal_of n) result out.new }
@@ -26,7 +27,7 @@ pub fn put_number(out: &mut [u8], at: usize, n: u64) -> usize
     put(out, at, &digits[..k])
 }
 
-// The word of a termination, `-` where there is none.
+// The word of a termination, `-` where there is none. Not Display: it writes into a page that is lent, at a place.
 pub fn put_termination(out: &mut [u8], at: usize, t: Option<Termination>) -> usize
     requires { at + 7 ≤ length out.old }
     ensures { Puts 7 out.old at (word_of t) result out.new }
@@ -60,7 +61,7 @@ pub fn put_right(out: &mut [u8], at: usize, w: usize, word: &[u8]) -> usize
     put(out, k, word)
 }
 
-// Writes n in decimal, after a minus sign if `minus`.
+// Writes n in decimal, after a minus sign if `minus`: the card has a sign and a whole number, of which an i64 would be made only to be taken apart here.
 pub fn put_signed(out: &mut [u8; 21], minus: bool, n: u64) -> usize
     ensures { Puts 21 out.old 0 (signed_of minus n) result out.new }
 {

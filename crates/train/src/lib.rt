@@ -14,7 +14,7 @@ use std::ops::ControlFlow;
 use strike::Struck;
 use tally::{Conditions, Tally};
 
-// Whether this impact rebounds and is the last that max_impacts allows, where n went before it.
+// Whether this impact rebounds (`hops`, a word of the definitions) and is the last that max_impacts allows, where n went before it.
 fn is_last(hops: bool, n: usize, max_impacts: u64) -> bool
     requires { n < 18446744073709551615 }
     ensures { result ≡ is_last hops n max_impacts }
@@ -55,7 +55,7 @@ pub fn run(
 {
     *t = Tally::new(landing);
     let mut state = *landing;
-    // Impacts and the hops between them.
+    // Impacts and the hops between them, until the ball drops: no count says beforehand when.
     let at = loop {
         let n = t.contacts;
         let hit = strike::strike(course, c, &state, t)?;

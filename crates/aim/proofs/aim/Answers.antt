@@ -12,23 +12,22 @@ returns-in_err-aim_refusal-clause-given c = rw (failed _ c.from_residual.ensures
 pub indexed-course-requires : goal.indexed-course-requires
 indexed-course-requires c = settle_sheet _ _ _ _ (aim_accepted _ _ _ _ _ _ _ (sym c.in_ok-aim_refusal.ensures)).settles
 
-pub try_grid-found-requires : goal.try_grid-found-requires
-try_grid-found-requires c =
+pub try_grid-requires : goal.try_grid-requires
+try_grid-requires c =
     let a = aim_accepted _ _ _ _ _ _ _ (sym c.in_ok-aim_refusal.ensures) in
     rw c.indexed-course.ensures (a.settles, a.rows_fit, a.columns_fit)
 
-pub returns-then-is_none-clause-given : goal.returns-then-is_none-clause-given
-returns-then-is_none-clause-given c =
-    rw (c.zero_from.ensures, c.zero_from-then-is_none.ensures)
-    (nothing_found _ _ _ _ _ _ _ (sym c.in_ok-aim_refusal.ensures) _ _ _ (rw c.indexed-course.ensures at c.try_grid-found.ensures)
-    c.if-is_none.ensures c.try_grid-found.auto.contacts c.try_grid-found.auto.points)
+pub returns-in_default-clause-given : goal.returns-in_default-clause-given
+returns-in_default-clause-given c =
+    rw (c.zero_from.ensures, c.zero_from-in_default.ensures)
+    (nothing_found _ _ _ _ _ _ _ (sym c.in_ok-aim_refusal.ensures) _ _ (rw (c.indexed-course.ensures, c.in_default.is) at c.try_grid.ensures)
+    c.try_grid.auto.contacts c.try_grid.auto.points)
 
-pub returns-else-is_none-clause-given : goal.returns-else-is_none-clause-given
-returns-else-is_none-clause-given c =
-    found _ _ _ _ _ _ _ (sym c.in_ok-aim_refusal.ensures) _ _ _ (rw c.indexed-course.ensures at c.try_grid-found.ensures)
-    c.if-is_none.ensures
+pub returns-clause-given : goal.returns-clause-given
+returns-clause-given c =
+    found _ _ _ _ _ _ _ (sym c.in_ok-aim_refusal.ensures) _ _ c.in-Some.found (rw (c.indexed-course.ensures, c.in-Some.is) at c.try_grid.ensures)
 
-pub returns-else-is_none-clause-rests : goal.returns-else-is_none-clause-rests
-returns-else-is_none-clause-rests c a h =
-    let q : c.try_grid-found.result ≡ Some a = cc in
-    found_rests _ c.args.shot.now _ c.args.contacts.now c.args.points.now _ a (rw (c.indexed-course.ensures, q) at c.try_grid-found.ensures)
+pub returns-clause-rests : goal.returns-clause-rests
+returns-clause-rests c a h =
+    let q : c.try_grid.result ≡ Some a = cc in
+    found_rests _ c.args.shot.now _ c.args.contacts.now c.args.points.now _ a (rw (c.indexed-course.ensures, q) at c.try_grid.ensures)

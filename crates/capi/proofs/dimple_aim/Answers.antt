@@ -13,12 +13,13 @@ aims : (input : List ℕ) (c p : List Float) (x z d : Float) (f g : ℕ) (l b : 
 unfolding aim_door_of
 aims input c p x z d f g l b h e r = rw (eq-eqb _ _ h, r) (ap (λ (w : Into). aim_reported w l) e)
 
-pub returns-then-landing-ne10 : goal.returns-then-landing-ne10
+pub returns-in_default : goal.returns-in_default
 unfolding aim_door_of
-returns-then-landing-ne10 c = rw (ne_eqb _ _ c.if-landing-ne10.true)
+returns-in_default c = rw (c.from.ensures, ne_eqb _ _ c.in_default.ensures.cases)
 
 pub returns : goal.returns
 returns c =
-    rw c.aim_answer-answer.ensures
-    (aims _ _ _ _ _ _ _ _ _ _ c.if-landing-ne10.false c.aim_into-found.ensures.into
+    let l = c.in-Some.ensures.cases in
+    rw (c.aim_answer-answer.ensures, ← l.same)
+    (aims _ _ _ _ _ _ _ _ _ _ (rw l.same l.long) c.aim_into-found.ensures.into
     (rw c.aim_answer-answer.ensures at c.write_result.ensures ∙ ap (λ (s : Settled). reported s c.args.res.now) c.settled_of.ensures))

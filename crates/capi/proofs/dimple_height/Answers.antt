@@ -11,10 +11,18 @@ number : (r : Result Float Refusal) → answer_by r ≡ (height_by r).answer
 number (Ok h) = refl
 number (Err e) = refl
 
-pub returns-then-height-ne1 : goal.returns-then-height-ne1
+pub returns-in_default : goal.returns-in_default
 unfolding height_door_of
-returns-then-height-ne1 c = rw (ne_eqb _ _ c.if-height-ne1.true)
+returns-in_default c = rw (c.from.ensures, ne_eqb _ _ c.in_default.ensures.cases)
 
 pub returns : goal.returns
 unfolding height_door_of
-returns c = rw (eq-eqb _ _ c.if-height-ne1.false, ← c.height-h.ensures, c.write_height.ensures, c.answer.ensures, number c.height-h.result)
+returns c =
+    rw (
+      eq-eqb _ _ c.in-Some.ensures.cases.long,
+      ← c.in-Some.ensures.cases.same,
+      ← c.height-h.ensures,
+      c.write_height.ensures,
+      c.answer.ensures,
+      number c.height-h.result,
+    )

@@ -11,11 +11,19 @@ same_answer : (x : Result Totals Refusal) → answer_by x ≡ (heard_by x).answe
 same_answer (Ok t) = refl
 same_answer (Err r) = refl
 
-pub returns-then-totals-ne3 : goal.returns-then-totals-ne3
+pub returns-in_default : goal.returns-in_default
 unfolding listen_door_of
-returns-then-totals-ne3 c = rw (ne_eqb _ _ c.if-totals-ne3.true)
+returns-in_default c = rw (c.from.ensures, ne_eqb _ _ c.in_default.ensures.cases)
 
 pub returns : goal.returns
 unfolding listen_door_of
 returns c =
-    rw (eq-eqb _ _ c.if-totals-ne3.false, ← c.listen-heard.ensures, c.put.ensures, c.total_numbers.ensures, c.answer.ensures, same_answer c.listen-heard.result)
+    rw (
+      eq-eqb _ _ c.in-Some.ensures.cases.long,
+      ← c.in-Some.ensures.cases.same,
+      ← c.listen-heard.ensures,
+      c.put.ensures,
+      c.total_numbers.ensures,
+      c.answer.ensures,
+      same_answer c.listen-heard.result,
+    )

@@ -7,18 +7,19 @@ pub returns-in_default : goal.returns-in_default
 unfolding place_door_of
 returns-in_default c = rw (ne_eqb _ _ c.in_default.ensures.cases)
 
-pub returns-then-shot-ne1 : goal.returns-then-shot-ne1
+pub returns-in_default-as_mut_array : goal.returns-in_default-as_mut_array
 unfolding place_door_of
-returns-then-shot-ne1 c = rw (eq-eqb _ _ (c.in-Some.ensures.variant.0 refl), ne_eqb _ _ c.if-shot-ne1.true)
+returns-in_default-as_mut_array c = rw (eq-eqb _ _ (c.in-Some.ensures.variant.0 refl), ne_eqb _ _ c.in_default-as_mut_array.ensures.cases)
 
 pub returns-then-not-board_ok : goal.returns-then-not-board_ok
 unfolding place_door_of
 returns-then-not-board_ok c =
     rw (
       eq-eqb _ _ (c.in-Some.ensures.variant.0 refl),
-      eq-eqb _ _ c.if-shot-ne1.false,
+      eq-eqb _ _ c.in-Some-as_mut_array.ensures.cases.long,
       ← c.in-Some.ensures.cases.same,
       sym c.board_ok.ensures ∙ c.if-not-board_ok.true,
+      ← c.in-Some-as_mut_array.ensures.cases.same,
     )
 
 pub returns-in-Ok : goal.returns-in-Ok
@@ -26,11 +27,12 @@ unfolding place_door_of
 returns-in-Ok c =
     rw (
       eq-eqb _ _ (c.in-Some.ensures.variant.0 refl),
-      eq-eqb _ _ c.if-shot-ne1.false,
+      eq-eqb _ _ c.in-Some-as_mut_array.ensures.cases.long,
       ← c.in-Some.ensures.cases.same,
       sym c.board_ok.ensures ∙ c.if-not-board_ok.false,
       ← c.board_at.ensures,
       ← c.in-Ok.ensures,
+      ← c.in-Some-as_mut_array.ensures.cases.same,
       c.put.ensures,
       c.whole.ensures,
     )
@@ -40,11 +42,12 @@ unfolding place_door_of
 returns-in-Err c =
     rw (
       eq-eqb _ _ (c.in-Some.ensures.variant.0 refl),
-      eq-eqb _ _ c.if-shot-ne1.false,
+      eq-eqb _ _ c.in-Some-as_mut_array.ensures.cases.long,
       ← c.in-Some.ensures.cases.same,
       sym c.board_ok.ensures ∙ c.if-not-board_ok.false,
       ← c.board_at.ensures,
       ← c.in-Err.ensures,
+      ← c.in-Some-as_mut_array.ensures.cases.same,
       c.put-in-Err.ensures,
       c.whole-in-Err.ensures,
     )

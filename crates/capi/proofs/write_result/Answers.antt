@@ -24,6 +24,7 @@ returns c = rw (
   c.put.ensures,
   c.whole.ensures,
   c.whole-2.ensures,
+  c.from.ensures,
   c.termination_number.ensures,
   c.ok.ensures.value,
   ended c.args.s.now.outcome,
@@ -31,4 +32,5 @@ returns c = rw (
   c.whole-4.ensures,
   c.whole-5.ensures,
   c.whole-6.ensures,
+  c.sides-rect.ensures,
 )

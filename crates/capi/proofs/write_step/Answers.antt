@@ -6,7 +6,7 @@ use Rattle.capi.proofs.write_step.Goals as goal
 
 pub returns-in-Ok : goal.returns-in-Ok
 unfolding stepped
-returns-in-Ok c given = rw (c.in-Ok.is, c.put.ensures, c.whole-phase.ensures, c.whole_phase.ensures)
+returns-in-Ok c given = rw (c.in-Ok.is, c.put.ensures, c.whole-phase.ensures, c.from-in-Ok.ensures, c.from.ensures)
 
 pub returns-in-Err : goal.returns-in-Err
 unfolding stepped of_bits round

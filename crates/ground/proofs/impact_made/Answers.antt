@@ -17,4 +17,4 @@ pub returns : goal.returns
 unfolding impact_run
 returns c =
     impact_ends _ _ _ _ _ (passes _ _ begun (rw (c.new-tally.ensures, c.scanned-course.ensures) at (c.look.ensures [] [])) c.in_ok-at.was)
-    (rw c.impact.ensures at (c.test.ensures (course_of c.args.sheet.now) [] []))
+    (rw c.impact.ensures at (c.test.ensures (course_of c.args.sheet) [] []))

@@ -13,5 +13,5 @@ number false = refl
 pub returns : goal.returns
 unfolding guess_look_of
 returns c =
-    let e = guess_same c.make_index.new.index (cuts_in c.accepted-sheet.result (replicate index_words 0)) c.make_index.ensures.cuts c.args.x c.args.z in
-    rw (← c.accepted-sheet.ensures, c.make_index.ensures.ready.ok, ← e, ← c.is_guessed.ensures) (c.from.ensures ∙ number _)
+    let e = guess_same c.make_index.new.index (cuts_in c.in-Ok.sheet (replicate index_words 0)) c.make_index.ensures.cuts c.args.x c.args.z in
+    rw (← c.in-Ok.ensures.sheet, c.make_index.ensures.ready.ok, ← e, ← c.is_guessed.ensures) (c.from.ensures ∙ number _)

@@ -8,15 +8,15 @@ use Rattle.hop.proofs.hop.Goals as goal
 pub loop-aero-init : goal.loop-aero-init
 loop-aero-init c lc = starts _ _ _ _ _ _ _
 
-pub returns-then-is_late : goal.returns-then-is_late
+pub returns-then-has_come : goal.returns-then-has_come
 unfolding hop_from
-returns-then-is_late c lc =
-    rw (← c.from_spin_vector-aero.ensures) (ends_late (c.loop-aero.invariant lc) (sym c.is_late.ensures ∙ c.if-is_late.true) (stands _ _ _))
+returns-then-has_come c lc =
+    rw (← c.from_spin_vector-aero.ensures) (ends_late (c.loop-aero.invariant lc) (sym c.has_come.ensures ∙ c.if-has_come.true) (stands _ _ _))
 
 pub returns-then-t-c : goal.returns-then-t-c
 unfolding hop_from
 returns-then-t-c c lc =
-    rw (← c.from_spin_vector-aero.ensures) (sym c.is_late.ensures ∙ c.if-is_late.false, ends_due (c.loop-aero.invariant lc) c.if-t-c.true)
+    rw (← c.from_spin_vector-aero.ensures) (sym c.has_come.ensures ∙ c.if-has_come.false, ends_due (c.loop-aero.invariant lc) c.if-t-c.true)
 
 pub hop_step-requires-clause-bounded : goal.hop_step-requires-clause-bounded
 hop_step-requires-clause-bounded c = still_bounded (c.loop-aero.invariant []).reached c.requires
@@ -25,17 +25,17 @@ pub returns-in_err-g : goal.returns-in_err-g
 unfolding hop_from
 returns-in_err-g c lc =
     rw (failed _ c.from_residual.ensures.1, ← c.from_spin_vector-aero.ensures)
-    (stops_by (c.loop-aero.invariant lc) (sym c.is_late.ensures ∙ c.if-is_late.false) c.if-t-c.false (c.hop_step.ensures lc) c.in_err-g.was)
+    (stops_by (c.loop-aero.invariant lc) (sym c.has_come.ensures ∙ c.if-has_come.false) c.if-t-c.false (c.hop_step.ensures lc) c.in_err-g.was)
 
 pub loop-aero-smaller : goal.loop-aero-smaller
 loop-aero-smaller c = omega (arith, (c.hop_step.ensures []).count, c.if-t-c.false)
 
 pub loop-aero-preserved : goal.loop-aero-preserved
 loop-aero-preserved c lc =
-    continues (c.loop-aero.invariant lc) (sym c.is_late.ensures ∙ c.if-is_late.false) c.if-t-c.false (c.hop_step.ensures lc) c.in_ok-g.was c.in-Continue.is
+    continues (c.loop-aero.invariant lc) (sym c.has_come.ensures ∙ c.if-has_come.false) c.if-t-c.false (c.hop_step.ensures lc) c.in_ok-g.was c.in-Continue.is
 
 pub returns-in-Break : goal.returns-in-Break
 unfolding hop_from
 returns-in-Break c lc =
     rw (← c.from_spin_vector-aero.ensures)
-    (breaks (c.loop-aero.invariant lc) (sym c.is_late.ensures ∙ c.if-is_late.false) c.if-t-c.false (c.hop_step.ensures lc) c.in_ok-g.was c.in-Break.is)
+    (breaks (c.loop-aero.invariant lc) (sym c.has_come.ensures ∙ c.if-has_come.false) c.if-t-c.false (c.hop_step.ensures lc) c.in_ok-g.was c.in-Break.is)

@@ -53,10 +53,10 @@ pub returns-in_err-push_due : goal.returns-in_err-push_due
 returns-in_err-push_due c lc =
     rw (failed _ c.from_residual-in_err-push_due.ensures.1)
     (ended (fails _ _ (not_met c.args.f.now c.in_ok-b.b (came_met (goal.at.returns-in_err-push_due c).In_ok-met lc) c.in_default.not-Some)
-    (rw c.is_due-due.ensures at (c.push_due.ensures lc)) c.in_err-push_due.was))
+    (rw c.has_come-due.ensures at (c.push_due.ensures lc)) c.in_err-push_due.was))
 
 pub returns : goal.returns
 returns c lc =
-    rw (c.next_after-next_sample.ensures, c.is_due-due.ensures)
+    rw (c.next_after-next_sample.ensures, c.has_come-due.ensures)
     (ended (passes _ _ (not_met c.args.f.now c.in_ok-b.b (came_met (goal.at.returns c).In_ok-met lc) c.in_default.not-Some)
-    (rw c.is_due-due.ensures at (c.push_due.ensures lc)) c.in_ok-push_due.was))
+    (rw c.has_come-due.ensures at (c.push_due.ensures lc)) c.in_ok-push_due.was))

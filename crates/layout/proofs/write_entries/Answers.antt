@@ -29,7 +29,7 @@ loop-i-init c = (c.told-out, sym (append-nil _))
 pub loop-i-preserved : goal.loop-i-preserved
 loop-i-preserved c =
     let b : c.loop-i.i + 1 ≤ 256 = omega arith in
-    next c.args.out.now _ _ c.args.entries.now _ b c.loop-i.invariant.0 c.loop-i.invariant.1 c.write_entry.ensures
+    next c.args.out.now _ _ c.args.entries.now _ b c.loop-i.invariant.0 c.loop-i.invariant.1 (rw (c.put.ensures, c.entry_numbers.ensures))
 
 pub returns : goal.returns
 returns c =

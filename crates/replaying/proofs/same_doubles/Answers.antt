@@ -9,7 +9,7 @@ returns-then-not-same_double c =
     rw (
       c.loop-k.invariant,
       agrees_next a.entry.now a.i a.doubles.now c.loop-k.k (omega arith),
-      ← c.word.ensures,
+      ← c.whole.ensures,
       ← c.same_double.ensures,
       c.if-not-same_double.true,
     )
@@ -20,7 +20,7 @@ loop-k-preserved c =
     rw (
       c.loop-k.invariant,
       agrees_next a.entry.now a.i a.doubles.now c.loop-k.k (omega arith),
-      ← c.word.ensures,
+      ← c.whole.ensures,
       ← c.same_double.ensures,
       c.if-not-same_double.false,
     )

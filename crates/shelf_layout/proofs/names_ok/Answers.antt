@@ -1,19 +1,14 @@
-use Rattle.std.proofs.Common.{arith, true, false, refl, sym, ◌≡◌, ◌∙◌, ◌+◌, ◌*◌, ◌-◌}
-use Rattle.shelf_layout.proofs.Laws.{names_on, names_end}
+use Rattle.std.proofs.Common.{rules, tests, arith, length, take, List, ◌≡◌, ◌∙◌}
+use Rattle.std.specs.Prelude.{Float}
+use Rattle.std.proofs.lemmas.Iterator.{YieldsList-from_slice}
+use Rattle.std.proofs.lemmas.Iterator.Search.{all_from_yields_List}
+use Rattle.shelf_layout.specs.Layout.{are_bytes}
+use Rattle.shelf_layout.proofs.Chunks.{names_in}
 use Rattle.shelf_layout.proofs.names_ok.Goals as goal
 
-pub loop-i-init : goal.loop-i-init
-loop-i-init c = refl
-
-pub returns-then-not-are_bytes : goal.returns-then-not-are_bytes
-returns-then-not-are_bytes c =
-    let e : 23 * c.loop-i.i + 13 - 23 * c.loop-i.i ≡ 13 = omega arith in
-    names_on _ _ c.loop-i-test.true _ false (sym c.if-not-are_bytes.true ∙ (rw e at c.are_bytes.ensures)) c.loop-i.invariant
-
-pub loop-i-preserved : goal.loop-i-preserved
-loop-i-preserved c =
-    let e : 23 * c.loop-i.i + 13 - 23 * c.loop-i.i ≡ 13 = omega arith in
-    names_on _ _ c.loop-i-test.true _ true (sym c.if-not-are_bytes.false ∙ (rw e at c.are_bytes.ensures)) c.loop-i.invariant
-
 pub returns : goal.returns
-returns c = names_end _ _ c.loop-i-test.false _ c.loop-i.invariant
+returns c =
+    let n : length c.as_chunks.result.0.now ≡ 16 = omega arith in
+    all_from_yields_List (λ (p : List Float). are_bytes (take 13 p)) _ _ c.all.result c.all.ensures.ran
+    (YieldsList-from_slice c.as_chunks.result.0.now (cc)) (λ x b q k. search (rules, tests))
+    ∙ names_in c.args.l.now _ _ c.as_chunks.ensures.front n

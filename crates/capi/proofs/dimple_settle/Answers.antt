@@ -1,6 +1,0 @@
-use Rattle.std.proofs.Common.{false}
-use Rattle.capi.proofs.Settling.{settles}
-use Rattle.capi.proofs.dimple_settle.Goals as goal
-
-pub returns : goal.returns
-returns c = rw c.answer-answer.ensures (settles false _ _ _ _ c.settle_input-s.ensures (rw c.answer-answer.ensures at c.write_result.ensures))

@@ -1,7 +1,0 @@
-use Rattle.std.proofs.Common.{refl}
-use lib.Ieee.{of_bits, round}
-use Rattle.shelf.proofs.zero_state.Goals as goal
-
-pub returns : goal.returns
-unfolding of_bits round
-returns c = refl
