@@ -79,7 +79,8 @@ module _ (b : BallState) (m d : ℕ) where
 -- ---- one try
 
 -- a call that ended at rest was not refused
-pub at_rest : (F : Refusal → Refusal → Bool) (o : Result Termination Refusal) → result_eq (sameb the_type) F o (Ok Rest) ≡ eqb (answer_by o) 0 && is_rest (ended_by o)
+pub at_rest : (F : Refusal → Refusal → Bool) (o : Result Termination Refusal)
+    → result_eq (sameb the_type) F o (Ok Rest) ≡ eqb (answer_by o) 0 && is_rest (ended_by o)
 at_rest F (Ok Rest) = refl
 at_rest F (Ok MaxTime) = refl
 at_rest F (Ok MaxImpacts) = refl
@@ -131,7 +132,8 @@ module _ (sheet : List ℕ) (shot : Shot) (t : Target) where
 
   -- `left` is left of all the landings, and none before it fits
   pub record Along (nc np : ℕ) (all left : List BallState) : Type 0 where
-    pub same : (ds qs : List Float) → length ds ≡ nc → length qs ≡ np → first_of (fits_from sheet shot t ds qs) left ≡ first_of (fits_from sheet shot t ds qs) all
+    pub same : (ds qs : List Float) → length ds ≡ nc → length qs ≡ np
+        → first_of (fits_from sheet shot t ds qs) left ≡ first_of (fits_from sheet shot t ds qs) all
 
 module _ {sheet : List ℕ} {shot : Shot} {t : Target} {nc np : ℕ} {all left : List BallState} where
   pub starts : left ≡ all → Along sheet shot t nc np all left

@@ -54,7 +54,8 @@ module _ (arc : Arc) where
   pub arrival_at_most_200 : (t end : Float) (spin : DVec3) → EvaluatesAtMost 200 (hop_arrival arc t end spin)
   unfolding hop_arrival first_crossing
   arrival_at_most_200 t end spin =
-      after 200 (clearance_at arc (dec 0 1)) _ (at_time (dec 0 1)) (λ f0. after 200 (first_crossing (clearance_at arc) arc.h f0 end) _ (crossing_from_lem end 8 1 _)
+      after 200 (clearance_at arc (dec 0 1)) _ (at_time (dec 0 1))
+      (λ f0. after 200 (first_crossing (clearance_at arc) arc.h f0 end) _ (crossing_from_lem end 8 1 _)
       (elim [
         | None ↦ value 200 None
         | Some b ↦ grows_then (λ w. w.log.evaluations) 200 0 (crossing_time arc b) _ (crossing_time_at_most_200 b)

@@ -14,5 +14,6 @@ unfolding definitions
 bench_shots = (refl, (refl, (refl, (refl, (refl, (refl, (refl, (refl, tt))))))))
 
 -- the starred shots and the starred numbers
-pub bench_table : Prints table × (root_of (dec 4 1) ≡ dec 2 1) × (cosine_of (dec 0 1) ≡ dec 1 1) × (exp_of (dec 0 1) ≡ dec 1 1) × (exp_of (neg (dec 701 1)) ≡ dec 0 1)
+pub bench_table : Prints table × (root_of (dec 4 1) ≡ dec 2 1) × (cosine_of (dec 0 1) ≡ dec 1 1) × (exp_of (dec 0 1) ≡ dec 1 1) × (exp_of (neg
+    (dec 701 1)) ≡ dec 0 1)
 bench_table = (bench_shots, root_four, cosine_zero, exp_at_zero, exp_at_minus_701)

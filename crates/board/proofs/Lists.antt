@@ -81,7 +81,8 @@ module _ (l : List Entry) (n i : ℕ) (e : Entry) (h : i ≤ n) (k : n < length 
   long = simp (length-drop, length-take) (omega arith)
 
   part : mid_of i (n + 1 - i) (set l n e) ≡ drop i (take n l) ++ (e ∷ [])
-  part = rw (rest, append_snoc') (take_at (drop i (take n l) ++ (e ∷ [])) (drop (n + 1) l) (n + 1 - i) (length-append (drop i (take n l)) (e ∷ []) ∙ omega (arith, long)))
+  part = rw (rest, append_snoc')
+      (take_at (drop i (take n l) ++ (e ∷ [])) (drop (n + 1) l) (n + 1 - i) (length-append (drop i (take n l)) (e ∷ []) ∙ omega (arith, long)))
     where
       append_snoc' : drop i (take n l) ++ (e ∷ drop (n + 1) l) ≡ (drop i (take n l) ++ (e ∷ [])) ++ drop (n + 1) l
       append_snoc' = sym (append_assoc (drop i (take n l)) (e ∷ []) (drop (n + 1) l))

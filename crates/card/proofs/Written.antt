@@ -33,7 +33,8 @@ value_put k x {w = w} {o} {r} {l} {m} e f = subst (λ (t : List ℕ). Fills w l 
 
 -- ---- lines
 
-pub heading_put : (t : Option Termination) {l m n p : List ℕ} {k j r : ℕ} → Puts 7 l 0 (word_of t) k m → Fills (59 - k) m k (blanks (59 - k)) j n → Adds n j line_end r p
+pub heading_put : (t : Option Termination) {l m n p : List ℕ} {k j r : ℕ} → Puts 7 l 0 (word_of t) k m → Fills (59 - k) m k (blanks (59 - k)) j n
+    → Adds n j line_end r p
     → Fills 60 l 0 (heading_line t) r p
 unfolding heading_line
 heading_put t {l} {m} {n} {p} {k} {j} {r} x y z =

@@ -1,5 +1,6 @@
 -- Lemmas. A record written at an index. Assumes nothing.
-use Rattle.std.proofs.Common.{◌≡◌, ℕ, ◌+◌, ◌≤◌, List, ◌++◌, length, take, drop, sym, ap, ◌∙◌, append_assoc, arith, length-append, length-drop, length-take-le, drop-drop, take_at, drop_at}
+use Rattle.std.proofs.Common.{◌≡◌, ℕ, ◌+◌, ◌≤◌, List, ◌++◌, length, take, drop, sym, ap, ◌∙◌, append_assoc, arith, length-append, length-drop}
+use Rattle.std.proofs.Common.{length-take-le, drop-drop, take_at, drop_at}
 use lib.Ieee.{Float}
 use lib.Seq.{paste, take-length}
 use Rattle.fields.specs.Fields.{written}

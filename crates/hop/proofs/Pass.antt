@@ -37,7 +37,8 @@ unfolding hop_step
 stepped c aero f e i r = rw (i, ← e) (step_made_lem _ _ begun r)
 
 -- the search for the arrival is due
-pub searching : {o : Oracle} {t t1 t2 t3 : Tally} {lc lp : List Float} (c : Conditions) (aero : AeroParams) (f : Flight) {arc : Arc} {b' b : BallState} {end : Float}
+pub searching : {o : Oracle} {t t1 t2 t3 : Tally} {lc lp : List Float} (c : Conditions) (aero : AeroParams)
+    (f : Flight) {arc : Arc} {b' b : BallState} {end : Float}
     {v : Result BallState Refusal} {w : Result Float Refusal}
     → arc ≡ step_arc c (aero_for c.fading aero) f.state → b' ≡ step_end (spin_after c.fading) arc f.state → MakesStep t 0 t1 → Tests t1 b' v t2 → v ≡ Ok b
     → Clears o t2 b.pos w t3 → w ≡ Ok end → Reached o (hop_step c (air_with c aero) f) (place t lc lp) 1 (to_arrive f arc b end) (place t3 lc lp)

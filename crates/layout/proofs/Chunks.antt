@@ -108,7 +108,8 @@ pub all_in : (l : List Float) → length l ≡ board_length → (held : List (Li
 unfolding entries_ok
 all_in l n held k e m count =
     let f : 0 + length held ≡ 256 = omega arith in
-    all_on l count held 0 (λ i j p h. let q : i ≡ j = omega arith in ok_in l n held k i e h (least_at count j) ∙ ap (λ (a : ℕ). entry_ok l (least_at count j) (start a)) q)
+    all_on l count held 0
+    (λ i j p h. let q : i ≡ j = omega arith in ok_in l n held k i e h (least_at count j) ∙ ap (λ (a : ℕ). entry_ok l (least_at count j) (start a)) q)
     ∙ ap (entries_ok l count) f
 
 -- ---- the entries that `from_fn` makes, by a closure that changes nothing

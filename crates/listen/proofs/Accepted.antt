@@ -47,7 +47,8 @@ module _ (heard contacts : List Float) (n : ℕ) where
     unfolding refusal_of
     accepted = go (contacts_whole (length contacts) n) (all_times_ok heard contacts n) (tolerance_ok t) (leb (length heard + n) room) refl refl refl refl
       where
-        go : (a b c d : Bool) → contacts_whole (length contacts) n ≡ a → all_times_ok heard contacts n ≡ b → tolerance_ok t ≡ c → leb (length heard + n) room ≡ d
+        go : (a b c d : Bool) → contacts_whole (length contacts) n ≡ a → all_times_ok heard contacts n ≡ b → tolerance_ok t ≡ c
+            → leb (length heard + n) room ≡ d
             → ◌≡◌ {A = ℕ} (if not a then 8 else if not b then 39 else if not c then 40 else if not d then 41 else 0) 0 → Accepted
         go true true true true p q r s e =
             record {

@@ -101,7 +101,8 @@ module _ (heard contacts : List Float) (n : ℕ) (t : Float) (room : ℕ) where
   unfolding refusal_of
   says_39 a b = rw (a, b)
 
-  pub says_40 : contacts_whole (length contacts) n ≡ true → all_times_ok heard contacts n ≡ true → tolerance_ok t ≡ false → 40 ≡ refusal_of heard contacts n t room
+  pub says_40 : contacts_whole (length contacts) n ≡ true → all_times_ok heard contacts n ≡ true → tolerance_ok t ≡ false
+      → 40 ≡ refusal_of heard contacts n t room
   unfolding refusal_of
   says_40 a b c = rw (a, b, c)
 

@@ -156,7 +156,8 @@ module _ (heard contacts : List Float) (n : ℕ) (t : Float) (marks : List ℕ) 
   room = omega (arith, (accepted heard contacts n t (length marks) e).room_for, firsts_length record_width n contacts)
 
   -- of two fronts further apart than the tolerance, where the heard time is not earlier the contact is
-  late : (i j : ℕ) → i < length heard → j < length cs → near t (get_or heard i nan) (get_or cs j nan) ≡ false → lt (get_or heard i nan) (get_or cs j nan) ≡ false
+  late : (i j : ℕ) → i < length heard → j < length cs → near t (get_or heard i nan) (get_or cs j nan) ≡ false
+      → lt (get_or heard i nan) (get_or cs j nan) ≡ false
       → T (lt (get_or cs j nan) (get_or heard i nan))
   late i j k l =
       let a = accepted heard contacts n t (length marks) e in

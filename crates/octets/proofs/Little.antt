@@ -11,6 +11,8 @@ pub half_of : (s : List ℕ) (o : ℕ) → little 4 s o ≡ (get_or s o 0 + 256 
 unfolding little
 half_of s o = simp add-zero (omega arith)
 
-pub word_of : (s : List ℕ) (o : ℕ) → little 8 s o ≡ (little 4 s o + 4294967296 * (get_or s (o + 4) 0 + 256 * get_or s (o + 5) 0)) + 281474976710656 * (get_or s (o + 6) 0 + 256 * get_or s (o + 7) 0)
+pub word_of : (s : List ℕ) (o : ℕ)
+    → little 8 s o ≡ (little 4 s o + 4294967296 * (get_or s (o + 4) 0 + 256 * get_or s (o + 5) 0)) + 281474976710656 * (get_or s
+    (o + 6) 0 + 256 * get_or s (o + 7) 0)
 unfolding little
 word_of s o = simp (add_assoc, add-zero) (omega arith)

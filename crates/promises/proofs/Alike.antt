@@ -87,7 +87,8 @@ module _ {A B : Type 0} {m m' : M A} {k k' : A → M B} where
 pub alike_exec : {A : Type 0} {m n : M A} → Alike m n → (o : Oracle) (l : Log) → exec o no_rect (m l) ≡ exec o no_rect (n l)
 alike_exec {A} {m} {n} a o l =
     let e = sym (reach_is o (m l) [] [] []) ∙ a.at_all o (fresh l) ∙ reach_is o (n l) [] [] [] in
-    exec_is o no_rect (m l) ∙ ap (λ (r : Reached A). did (record { outcome = r.outcome; log = r.past.log }) (rect_from no_rect r.past.spots)) e ∙ sym (exec_is o no_rect (n l))
+    exec_is o no_rect (m l) ∙ ap (λ (r : Reached A). did (record { outcome = r.outcome; log = r.past.log }) (rect_from no_rect r.past.spots)) e ∙ sym
+    (exec_is o no_rect (n l))
 
 -- ---- the spin of a state is of doubles, after an impact too
 
@@ -199,7 +200,8 @@ module _ (c : Conditions) where
   hop_spun start d = gives_bind SpunWay (steps_left c) _ (λ n.
       gives_map (WithWay c start.spin d) SpunWay _ (elim [ Arrived b ↦ λ h. rw h d | Late b ↦ λ h. rw h d ]) (hop_with c start.spin d n (flight start _) refl))
 
-  fly_alike : (hops : Bool) (state : BallState) (hit : Struck) → SpunHit hit → Alike (fly_by c (hop_held c) hops state hit) (fly_by c (hop_fading one c) hops state hit)
+  fly_alike : (hops : Bool) (state : BallState) (hit : Struck) → SpunHit hit
+      → Alike (fly_by c (hop_held c) hops state hit) (fly_by c (hop_fading one c) hops state hit)
   unfolding fly_by
   fly_alike hops state hit d = alike_if (not hops) alike_same (alike_bind alike_same (λ m. alike_bind alike_same (λ _.
       alike_bind (hop_alike hit.out d) (λ way. alike_same))))

@@ -25,12 +25,14 @@ use Rattle.promises.proofs.EachPass.{each_train}
 
 module _ (shot : Shot) where
   -- one pass of a hop, and one of the ground, from any state that passes test 22; a pass is due where it is not late, t_end being landing.time + max_time
-  pub one_hop_pass : physics_ok shot.physics shot.step_limit ≡ true → landing_ok shot.landing ≡ true → T (fits binary64 shot.physics.dt) → (air : Air) (f : Flight) → Timed f.state
+  pub one_hop_pass : physics_ok shot.physics shot.step_limit ≡ true → landing_ok shot.landing ≡ true → T (fits binary64 shot.physics.dt)
+      → (air : Air) (f : Flight) → Timed f.state
       → is_late f.state.time (shot.landing.time ⊕ shot.physics.max_time) ≡ false → HopBracket (conditions_of shot) air f
   unfolding conditions_of
   one_hop_pass h k d air f t due = hop_pass (conditions_of shot) (accepted_paced shot h k d) air f t due
 
-  pub one_ground_pass : physics_ok shot.physics shot.step_limit ≡ true → landing_ok shot.landing ≡ true → T (fits binary64 shot.physics.dt) → (g : Roll) → Timed g.state
+  pub one_ground_pass : physics_ok shot.physics shot.step_limit ≡ true → landing_ok shot.landing ≡ true → T (fits binary64 shot.physics.dt)
+      → (g : Roll) → Timed g.state
       → is_late g.state.time (shot.landing.time ⊕ shot.physics.max_time) ≡ false → GroundBracket (conditions_of shot) g
   unfolding conditions_of
   one_ground_pass h k d g t due = ground_pass (conditions_of shot) (accepted_paced shot h k d) g t due

@@ -58,7 +58,8 @@ module _ (sheet : List ℕ) (dt stop threshold : Float) (ball : BallModel) (stat
   step_made_lem = go (exec (course_of sheet) no_rect (step_run dt stop threshold ball state (first_log state 0 0))).value.outcome
       (given (course_of sheet) (λ r. (r.answer ≡ 0) × (state_ok r.state ≡ true)) (step_run dt stop threshold ball state) step_run_lem (first_log state 0 0))
     where
-      go : (x : Outcome StepOut) → Given (course_of sheet) (λ (r : StepOut). (r.answer ≡ 0) × (state_ok r.state ≡ true)) x → StepSays sheet dt stop threshold ball state (step_by state x)
+      go : (x : Outcome StepOut) → Given (course_of sheet) (λ (r : StepOut). (r.answer ≡ 0) × (state_ok r.state ≡ true)) x
+          → StepSays sheet dt stop threshold ball state (step_by state x)
       go (goes r) h = inl h
       go (stops n) h = rw h (inr (tt, refl, refl))
 
@@ -68,8 +69,10 @@ module _ (sheet : List ℕ) (dt stop threshold : Float) (ball : BallModel) (stat
       go (header_ok sheet) (all (surface_ok sheet) (surfaces sheet) 0) (all (patch_ok sheet) (patches sheet) (surfaces sheet))
       (step_physics_ok dt stop threshold) (ball_ok ball) (landing_ok state) refl refl refl refl refl refl
     where
-      go : (a b c d e f : Bool) → header_ok sheet ≡ a → all (surface_ok sheet) (surfaces sheet) 0 ≡ b → all (patch_ok sheet) (patches sheet) (surfaces sheet) ≡ c
-          → step_physics_ok dt stop threshold ≡ d → ball_ok ball ≡ e → landing_ok state ≡ f → StepSays sheet dt stop threshold ball state (step_of sheet dt stop threshold ball state)
+      go : (a b c d e f : Bool) → header_ok sheet ≡ a → all (surface_ok sheet) (surfaces sheet) 0 ≡ b
+          → all (patch_ok sheet) (patches sheet) (surfaces sheet) ≡ c
+          → step_physics_ok dt stop threshold ≡ d → ball_ok ball ≡ e → landing_ok state ≡ f
+          → StepSays sheet dt stop threshold ball state (step_of sheet dt stop threshold ball state)
       go false b c d e f i j k l m n = rw i (inr (tt, refl, refl))
       go true false c d e f i j k l m n = rw (i, j) (inr (tt, refl, refl))
       go true true false d e f i j k l m n = rw (i, j, k) (inr (tt, refl, refl))

@@ -45,7 +45,8 @@ use Rattle.ground.specs.Tests.{refusal_of}
 use Rattle.ground.specs.Settle.{conditions_of, first_log, run_of}
 use Rattle.promises.specs.Promises.{got}
 use Rattle.promises.proofs.Promises.{steps_made}
-use Rattle.promises.specs.Passes.{Made, in_air, on_ground, none as nothing, followed, after, loop_passes, hop_passes, ground_passes, fly_passes, to_ground_passes}
+use Rattle.promises.specs.Passes.{Made, in_air, on_ground, none as nothing, followed, after, loop_passes, hop_passes, ground_passes, fly_passes}
+use Rattle.promises.specs.Passes.{to_ground_passes}
 use Rattle.promises.specs.Passes.{train_passes, passes_of}
 
 module _ (o : Oracle) where

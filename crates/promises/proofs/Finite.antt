@@ -220,7 +220,8 @@ module _ (sheet : List ℕ) (shot : Shot) (cs ps : List Float) where
         each_point = s.points.each;
         steps = rw (h, value_is) s.counted.1;
         made = rw (h, value_is, ← steps_are o t) s.counted.0;
-        work = rw (h, value_is) (let few = of_every_run o (train_works o c landing) (first_log landing (length cs) (length ps)) (omega arith) in omega (arith, few));
+        work = rw (h, value_is)
+            (let few = of_every_run o (train_works o c landing) (first_log landing (length cs) (length ps)) (omega arith) in omega (arith, few));
         answer = rw (h, value_is) (answer_is (run o t).outcome end k);
         contacts_full = rw (h, value_is) (λ a. reason_20 (y 20 (omega arith) a).0);
         points_full = rw (h, value_is) (λ a. reason_21 (y 21 (omega arith) a).0);

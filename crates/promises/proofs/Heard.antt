@@ -1,4 +1,5 @@
--- Statements. Every run with answer 0 may be listened to (02, paper 14): its contact times never bring 39. dt and the landing's time are doubles, as every f64 is.
+-- Statements. Every run with answer 0 may be listened to (02, paper 14): its contact times never bring 39. dt and the landing's time are doubles, as
+-- every f64 is.
 -- Assumes nothing.
 use Rattle.std.specs.Prelude.{ℕ, zero, suc, ◌≡◌, refl, Bool, true, false, not, ◌&&◌, Float, drop}
 use Rattle.std.proofs.Common.{arith, sym, ◌∙◌}

@@ -42,11 +42,13 @@ use Rattle.ground_phase.specs.GroundPhase.{time_up, ground_from, ground}
 use Rattle.strike.specs.Strike.{strike, rebounds, dies_out, fly_by, fly, dropped, drop}
 use Rattle.strike.specs.declared.Struck.{Struck}
 use Rattle.train.specs.Train.{last_impact, to_ground, train_from_by, train_from, train}
-use Rattle.tally.proofs.Triple.{t_made, t_evaluation, evaluated_once, Past, OnWith, Triple, t_before, t_after, t_bind, t_then, t_fact, t_know, t_of, t_if, t_pure, t_same, t_loop}
+use Rattle.tally.proofs.Triple.{t_made, t_evaluation, evaluated_once, Past, OnWith, Triple, t_before, t_after, t_bind, t_then, t_fact, t_know, t_of, t_if}
+use Rattle.tally.proofs.Triple.{t_pure, t_same, t_loop}
 use Rattle.promises.specs.Terms.{Answer, SampleOf, Ok, OverDoubles, under, Placed, GivenBy, struck_at, arc_from, end_from, Grounded, at_once, after_hop_lem}
 use Rattle.promises.specs.Terms.{impact, hop_step_lem, arrival, drop as dropping, ground_step_lem, on_path, below_step}
 use Rattle.promises.specs.Keeps.{Setting, Keeps, At, Within, at_ok, at_frame, t_given}
-use Rattle.promises.specs.Keeps.{over_doubles, a_look, a_look_own, a_evaluation, a_test, a_point_own, a_contact, a_mark, a_truncate, a_when, a_step, a_left, a_limit}
+use Rattle.promises.specs.Keeps.{over_doubles, a_look, a_look_own, a_evaluation, a_test, a_point_own, a_contact, a_mark, a_truncate, a_when, a_step}
+use Rattle.promises.specs.Keeps.{a_left, a_limit}
 
 -- ---- the drag and lift of a hop's steps, from step to step
 own_self : (b : Bool) (w : DVec3) → aero_for b (from_spin_vector w) w ≡ from_spin_vector w
@@ -105,7 +107,8 @@ module _ {o : Oracle} {P : Past → Type 0} {R : ℕ → Past → Type 0} (arc :
     l_root zero s = t_same
     l_root (suc n) s = t_bind (l_evaluate _) (λ x. next (l_root n) (narrowed s (in_bracket s) x))
       where
-        next : ((t : Search) → Looks (root_from in_m (evaluate f) n t)) → (r : ControlFlow Float Search) → Looks (after_step in_m (root_from in_m (evaluate f) n) r)
+        next : ((t : Search) → Looks (root_from in_m (evaluate f) n t)) → (r : ControlFlow Float Search)
+            → Looks (after_step in_m (root_from in_m (evaluate f) n) r)
         next h (Continue t) = h t
         next h (Break x) = t_same
 

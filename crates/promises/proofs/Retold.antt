@@ -67,7 +67,8 @@ module _ (sheet : List ℕ) (shot : Shot) (cs ps : List Float) where
     told : After (Told o (conditions_of shot) most shot.landing.time) Any (run o t).outcome end
     unfolding run_of conditions_of
     told =
-        of_run o (t_train o (conditions_of shot) paced most shot.landing.time shot.landing landing_timed refl most_is) (first_log shot.landing (length cs) (length ps))
+        of_run o (t_train o (conditions_of shot) paced most shot.landing.time shot.landing landing_timed refl most_is)
+        (first_log shot.landing (length cs) (length ps))
         (refl, refl)
 
     how_is : got.settled.termination ≡ how_by (run o t).outcome

@@ -1,8 +1,10 @@
 -- Lemmas. No refusal has the number 0, so an answer of 0 is of a call that was not refused. Assumes nothing.
 use Rattle.std.proofs.Common.{ℕ, ◌<◌, ◌≡◌, lit<, arith, Result, Ok, Err}
 use Rattle.refusal.specs.declared.Refusal.{Refusal}
-use Rattle.refusal.specs.declared.Refusal.TheVariants.{SheetHeader, SheetSurface, SheetPatch, Physics, Ball, AirDensity, Landing, ListLength, Pin, EntrySpot, HeightSpot, InputLength}
-use Rattle.refusal.specs.declared.Refusal.TheVariants.{ContactsFull, PointsFull, OutOfRange, StepLimit, BayUsed, ShotEntered, NoEntry, PageLength, Bay, Name, ShelfFull, NotKept}
+use Rattle.refusal.specs.declared.Refusal.TheVariants.{SheetHeader, SheetSurface, SheetPatch, Physics, Ball, AirDensity, Landing, ListLength, Pin}
+use Rattle.refusal.specs.declared.Refusal.TheVariants.{EntrySpot, HeightSpot, InputLength}
+use Rattle.refusal.specs.declared.Refusal.TheVariants.{ContactsFull, PointsFull, OutOfRange, StepLimit, BayUsed, ShotEntered, NoEntry, PageLength, Bay}
+use Rattle.refusal.specs.declared.Refusal.TheVariants.{Name, ShelfFull, NotKept}
 use Rattle.refusal.specs.declared.Refusal.TheVariants.{Aim, Times, Tolerance, MarksLength, LentLength, NotHeld, NoTermination}
 use Rattle.refusal.specs.Refusal.{number_of, answer_by}
 

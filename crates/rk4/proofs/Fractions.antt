@@ -109,7 +109,8 @@ times-plus a b c =
     expanded (times_f (plus_f a b) c) (plus_f (times_f a c) (times_f b c)) c.den (omega arith) (omega arith) (omega arith)
 
 -- b · (1 / b) is 1, by the sign of the numerator
-inverse_at : (b : Fraction) (m k : ℕ) → b.up - b.down ≡ m → b.down - b.up ≡ k → (b.up ≡ b.down → ⊥) → Equal (times_f b (times_f (whole 1) (reciprocal m k b.den))) (whole 1)
+inverse_at : (b : Fraction) (m k : ℕ) → b.up - b.down ≡ m → b.down - b.up ≡ k → (b.up ≡ b.down → ⊥)
+    → Equal (times_f b (times_f (whole 1) (reciprocal m k b.den))) (whole 1)
 unfolding reciprocal
 inverse_at b zero zero p q n = absurd (n (omega arith))
 inverse_at b (suc m) k p q n = let e : b.up ≡ b.down + suc m = omega arith in omega (arith, ap (λ (x : ℕ). x * b.den) e)

@@ -69,7 +69,8 @@ quotient : div binary64 (of_bits binary64 0) (of_bits binary64 0) ≡ nan
 unfolding div of_bits
 quotient = refl
 
-pub at_minus : (x : Float) → T (fits binary64 x) → T (not (is_nan x)) → 9218868437227405312 ≤ to_bits binary64 x → (to_bits binary64 x ≡ 9218868437227405312 → ⊥)
+pub at_minus : (x : Float) → T (fits binary64 x) → T (not (is_nan x)) → 9218868437227405312 ≤ to_bits binary64 x
+    → (to_bits binary64 x ≡ 9218868437227405312 → ⊥)
     → (to_bits binary64 x ≡ 9223372036854775808 → ⊥)
     → div binary64 (of_bits binary64 0) (of_bits binary64 0) ≡ root_of x
 at_minus x f n p q r =

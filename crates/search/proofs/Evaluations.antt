@@ -16,7 +16,8 @@ use Rattle.search.specs.declared.Bracket.{Bracket}
 use Rattle.search.specs.declared.Search.{Search}
 use Rattle.search.specs.declared.End.{End}
 use Rattle.search.specs.declared.End.TheVariants.{Lo, Hi}
-use Rattle.search.specs.Search.{Does, root_from, find_root, after_step, plain, Counted, counting, counted, start, middle, tolerance, in_bracket, narrowed, onward, replaced, inside, chord, next_try}
+use Rattle.search.specs.Search.{Does, root_from, find_root, after_step, plain, Counted, counting, counted, start, middle, tolerance, in_bracket, narrowed}
+use Rattle.search.specs.Search.{onward, replaced, inside, chord, next_try}
 
 -- ---- the number of evaluations
 
@@ -88,7 +89,8 @@ module _ (f : Float → Float) where
       by_step
       (λ r. one_more (after_step counting (root_from counting (counted f) n) r)
       ≡ (after_step plain (root_from plain f n) r, suc (length (after_step logging (root_from logging (logged f) n) r).1)))
-      (λ t. ap one_more (counted_from n t) ∙ ap (λ (k : ℕ). (root_from plain f n t, k)) (omega arith)) (λ x. refl) (narrowed s (in_bracket s) (f (in_bracket s)))
+      (λ t. ap one_more (counted_from n t) ∙ ap (λ (k : ℕ). (root_from plain f n t, k)) (omega arith)) (λ x. refl)
+      (narrowed s (in_bracket s) (f (in_bracket s)))
 
   -- the search that counts has the plain search's answer, and its count is the length of the logged list
   pub counted_is_logged : (b : Bracket) (guess : Float)
@@ -169,7 +171,8 @@ module _ (lo hi : Float) (lo_about : T (about_of largest lo)) (hi_about : T (abo
   about x w =
       let m = largest in
       within_of_lem (neg m) m x
-      (le_through (neg m) lo x (within_lo (neg m) m lo lo_about) (within_lo lo hi x w)) (le_through x hi m (within_hi lo hi x w) (within_hi (neg m) m hi hi_about))
+      (le_through (neg m) lo x (within_lo (neg m) m lo lo_about) (within_lo lo hi x w))
+      (le_through x hi m (within_hi lo hi x w) (within_hi (neg m) m hi hi_about))
 
   -- each place evaluated lies within the bracket
   pub in_bracket_within : (s : Search) → Ordered lo hi s.bracket → Within s.bracket.lo s.bracket.hi (in_bracket s)
@@ -179,7 +182,8 @@ module _ (lo hi : Float) (lo_about : T (about_of largest lo)) (hi_about : T (abo
       either (Within b.lo b.hi) (within_of b.lo b.hi s.x) (λ w. w)
       (midpoint b.lo b.hi o.lo_fits o.hi_fits (about b.lo (lo_within b o)) (about b.hi (hi_within b o)) o.ends)
 
-  ordered_replaced : (s : Search) (x fx : Float) → T (fits binary64 x) → Ordered lo hi s.bracket → Within s.bracket.lo s.bracket.hi x → Ordered lo hi (replaced s x fx)
+  ordered_replaced : (s : Search) (x fx : Float) → T (fits binary64 x) → Ordered lo hi s.bracket → Within s.bracket.lo s.bracket.hi x
+      → Ordered lo hi (replaced s x fx)
   unfolding replaced
   ordered_replaced s x fx xf o w =
       let b = s.bracket in

@@ -26,19 +26,23 @@ Number s i j = T (not (nan_bits binary64 (field s i j)))
 module _ (s : List ℕ) (i : ℕ) (e : Accepted s) where
   pub surface_2 : i < surfaces s → Number s i 2
   unfolding surface_ok
-  surface_2 l = no_nan (dec 0 1) (dec 10 1) (field s i 2) (must (within_of (dec 0 1) (dec 10 1) (real s i 2)) (surface_ok s i) (λ h. simp (h, and-false)) (surface_passed s i e l))
+  surface_2 l = no_nan (dec 0 1) (dec 10 1) (field s i 2)
+      (must (within_of (dec 0 1) (dec 10 1) (real s i 2)) (surface_ok s i) (λ h. simp (h, and-false)) (surface_passed s i e l))
 
   pub surface_3 : i < surfaces s → Number s i 3
   unfolding surface_ok
-  surface_3 l = no_nan (dec 0 1) (dec 10 1) (field s i 3) (must (within_of (dec 0 1) (dec 10 1) (real s i 3)) (surface_ok s i) (λ h. simp (h, and-false)) (surface_passed s i e l))
+  surface_3 l = no_nan (dec 0 1) (dec 10 1) (field s i 3)
+      (must (within_of (dec 0 1) (dec 10 1) (real s i 3)) (surface_ok s i) (λ h. simp (h, and-false)) (surface_passed s i e l))
 
   pub surface_6 : i < surfaces s → Number s i 6
   unfolding surface_ok
-  surface_6 l = no_nan (dec 0 1) (dec 10 1) (field s i 6) (must (within_of (dec 0 1) (dec 10 1) (real s i 6)) (surface_ok s i) (λ h. simp (h, and-false)) (surface_passed s i e l))
+  surface_6 l = no_nan (dec 0 1) (dec 10 1) (field s i 6)
+      (must (within_of (dec 0 1) (dec 10 1) (real s i 6)) (surface_ok s i) (λ h. simp (h, and-false)) (surface_passed s i e l))
 
   pub surface_7 : i < surfaces s → Number s i 7
   unfolding surface_ok
-  surface_7 l = no_nan (dec 0 1) (dec 1 1) (field s i 7) (must (within_of (dec 0 1) (dec 1 1) (real s i 7)) (surface_ok s i) (λ h. simp (h, and-false)) (surface_passed s i e l))
+  surface_7 l = no_nan (dec 0 1) (dec 1 1) (field s i 7)
+      (must (within_of (dec 0 1) (dec 1 1) (real s i 7)) (surface_ok s i) (λ h. simp (h, and-false)) (surface_passed s i e l))
 
   pub patch_numbers : (j : ℕ) → surfaces s ≤ i → i < surfaces s + patches s → j < 7 → Number s i j
   unfolding patch_ok
@@ -52,7 +56,10 @@ module _ (s : List ℕ) (i : ℕ) (e : Accepted s) where
       go (suc zero) l = (edges_real s i r).e1
       go (suc (suc zero)) l = (edges_real s i r).e2
       go (suc (suc (suc zero))) l = (edges_real s i r).e3
-      go (suc (suc (suc (suc zero)))) l = no_nan (neg (dec 1000 1)) (dec 1000 1) (field s i 4) (must (about_of (dec 1000 1) (real s i 4)) (patch_ok s i) (λ h. simp (h, and-false)) r)
-      go (suc (suc (suc (suc (suc zero))))) l = no_nan (neg (dec 4 1)) (dec 4 1) (field s i 5) (must (about_of (dec 4 1) (real s i 5)) (patch_ok s i) (λ h. simp (h, and-false)) r)
-      go (suc (suc (suc (suc (suc (suc zero)))))) l = no_nan (neg (dec 4 1)) (dec 4 1) (field s i 6) (must (about_of (dec 4 1) (real s i 6)) (patch_ok s i) (λ h. simp (h, and-false)) r)
+      go (suc (suc (suc (suc zero)))) l = no_nan (neg (dec 1000 1)) (dec 1000 1) (field s i 4)
+          (must (about_of (dec 1000 1) (real s i 4)) (patch_ok s i) (λ h. simp (h, and-false)) r)
+      go (suc (suc (suc (suc (suc zero))))) l = no_nan (neg (dec 4 1)) (dec 4 1) (field s i 5)
+          (must (about_of (dec 4 1) (real s i 5)) (patch_ok s i) (λ h. simp (h, and-false)) r)
+      go (suc (suc (suc (suc (suc (suc zero)))))) l = no_nan (neg (dec 4 1)) (dec 4 1) (field s i 6)
+          (must (about_of (dec 4 1) (real s i 6)) (patch_ok s i) (λ h. simp (h, and-false)) r)
       go (suc (suc (suc (suc (suc (suc (suc j))))))) l = absurd (omega arith)

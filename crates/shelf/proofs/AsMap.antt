@@ -16,8 +16,11 @@ use Rattle.shelf.specs.declared.Shelf.{Shelf}
 use Rattle.shelf.specs.Answers.{Saved}
 use Rattle.shelf.specs.Answers.{Returned}
 use Rattle.shelf.specs.Map.{name_ok, same, Map, empty_map, update, Call, Out, Done, out, told, done, with, keep, give, lose, call, map_after, map_outs}
-use Rattle.shelf.specs.Shelf.{packed, no_name, place, empty_place, shelf, empty_shelf, has, find, put, saved, replaced, kept, given, save_of, return_of, drop_of, padded, sound_name, sound_place, sound}
-use Rattle.shelf.proofs.Places.{Decided, decide, same_eq, same_packed, packed_sound, packed_length, packed_taken, free_not_packed, has_find, find_later, Fresh, find_put, find_other, length-put, one, used, used_put, used_room, sound_put, find_dropped, All, all_put, found_state, fits_empty, one_free, one_packed}
+use Rattle.shelf.specs.Shelf.{packed, no_name, place, empty_place, shelf, empty_shelf, has, find, put, saved, replaced, kept, given, save_of, return_of}
+use Rattle.shelf.specs.Shelf.{drop_of, padded, sound_name, sound_place, sound}
+use Rattle.shelf.proofs.Places.{Decided, decide, same_eq, same_packed, packed_sound, packed_length, packed_taken, free_not_packed, has_find, find_later}
+use Rattle.shelf.proofs.Places.{Fresh, find_put, find_other, length-put, one, used, used_put, used_room, sound_put, find_dropped, All, all_put}
+use Rattle.shelf.proofs.Places.{found_state, fits_empty, one_free, one_packed}
 
 -- ---- the calls, on a shelf
 pub record ShelfDone : Type 0 where

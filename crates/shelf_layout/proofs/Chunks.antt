@@ -84,7 +84,8 @@ module _ {F : Type 0} {g : Mut F (ℕ × Unit {0}) Place} (f : F) (h : ℕ → P
   made_from (suc n) i m (suc k) j e l =
       made_from n (i + 1) (subst (λ (a : F). IsFromFnResultFrom g a ys (i + 1) n) (pure i m.1 m.0 m.3).0 m.4) k j (omega arith) (omega arith)
 
-places_from : (n : ℕ) (l : List Float) (ys : List Place) → length ys ≡ n → ((k : ℕ) → k < n → get_or ys k empty_place ≡ place_at (drop (23 * k) l)) → ys ≡ places_at n l
+places_from : (n : ℕ) (l : List Float) (ys : List Place) → length ys ≡ n → ((k : ℕ) → k < n → get_or ys k empty_place ≡ place_at (drop (23 * k) l))
+    → ys ≡ places_at n l
 unfolding places_at
 places_from zero l [] m h = refl
 places_from zero l (y ∷ ys) m h = absurd (omega arith)
@@ -92,7 +93,8 @@ places_from (suc n) l [] m h = absurd (omega arith)
 places_from (suc n) l (y ∷ ys) m h =
     let a : y ≡ place_at l = h 0 (omega arith) in
     let b : ys ≡ places_at n (drop 23 l) = places_from n (drop 23 l) ys (omega arith)
-    (λ k i. h (suc k) (omega arith) ∙ ap place_at (let e : 23 * suc k ≡ 23 + 23 * k = omega arith in ap (λ (m : ℕ). drop m l) e ∙ sym (drop-drop (23 * k) 23 l))) in
+    (λ k i. h (suc k) (omega arith) ∙ ap place_at
+    (let e : 23 * suc k ≡ 23 + 23 * k = omega arith in ap (λ (m : ℕ). drop m l) e ∙ sym (drop-drop (23 * k) 23 l))) in
     cc
 
 pub places_made : {F : Type 0} {g : Mut F (ℕ × Unit {0}) Place} (l : List Float) (held : List (List Float)) (k : ℕ) → held ≡ first_chunks 23 k l
@@ -115,7 +117,8 @@ module _ {F : Type 0} {g : Mut F (ℕ × Unit {0}) Float} (f : F) (h : ℕ → F
   mapped_from (suc n) i m (suc k) j e l =
       mapped_from n (i + 1) (subst (λ (a : F). MapsFrom g a xs ys (i + 1) n) (pure m.1 m.2 m.0 m.5).0 m.6) k j (omega arith) (omega arith)
 
-numbers_from : (h : ℕ → Float) (xs : List ℕ) (ys : List Float) → length ys ≡ length xs → ((k : ℕ) → k < length xs → get_or ys k nan ≡ h (get_or xs k 0)) → ys ≡ map h xs
+numbers_from : (h : ℕ → Float) (xs : List ℕ) (ys : List Float) → length ys ≡ length xs
+    → ((k : ℕ) → k < length xs → get_or ys k nan ≡ h (get_or xs k 0)) → ys ≡ map h xs
 numbers_from h [] [] m e = refl
 numbers_from h [] (y ∷ ys) m e = absurd (omega arith)
 numbers_from h (x ∷ xs) [] m e = absurd (omega arith)

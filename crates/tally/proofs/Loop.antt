@@ -63,7 +63,8 @@ module _ {A B : Type 0} {o : Oracle} {c : Conditions} {late : A → Bool} {at_en
     ends_done y z = on (ended (beyond here.reached r (Words.loop_done o _ late at_end pass a _ y one_less e r.same z)))
 
   -- the same, by what the code's pass gave
-  module _ (e : late a ≡ false) (h : p.tally.steps < c.step_limit) {w : Result (ControlFlow B A) Refusal} {p' : Place} (r : Runs o (pass a) 1 p (passes_by w) p') where
+  module _ (e : late a ≡ false) (h : p.tally.steps < c.step_limit) {w : Result (ControlFlow B A) Refusal} {p' : Place}
+      (r : Runs o (pass a) 1 p (passes_by w) p') where
     pub continues : {v : ControlFlow B A} {b : A} → w ≡ Ok v → v ≡ Continue b → Midway o c late at_end pass a₀ p₀ b p'
     continues i j = goes_on e h (rw (i, j) at r) refl
 

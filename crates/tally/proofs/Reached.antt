@@ -1,6 +1,7 @@
 -- Lemmas: how far a run has come, from the place before a call to the place after it. Two laws serve every call, a word or a part of the settle:
 -- `passes`, where the call goes on, and `fails`, where it stops.
-use Rattle.std.proofs.Common.{◌≡◌, ℕ, ◌+◌, ◌-◌, ◌*◌, ◌/◌, ◌<◌, ◌≤◌, Bool, true, false, not, ltb, List, [], ◌∷◌, ◌++◌, length, drop, replicate, sym, refl, ap, ◌∙◌, le-div_iff_mul-le, arith, length-append, ltb-true}
+use Rattle.std.proofs.Common.{◌≡◌, ℕ, ◌+◌, ◌-◌, ◌*◌, ◌/◌, ◌<◌, ◌≤◌, Bool, true, false, not, ltb, List, [], ◌∷◌, ◌++◌, length, drop, replicate, sym, refl}
+use Rattle.std.proofs.Common.{ap, ◌∙◌, le-div_iff_mul-le, arith, length-append, ltb-true}
 use lib.Ieee.{Float}
 use lib.ListN.{length-replicate}
 use lib.Seq.{drop-length}

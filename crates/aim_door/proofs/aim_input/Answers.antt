@@ -8,7 +8,8 @@ use Rattle.input.proofs.Head.{shot_of_head}
 use Rattle.aim_door.specs.AimInput.{aim_input_of}
 use Rattle.aim_door.proofs.aim_input.Goals as goal
 
-not_taken : (s : List ℕ) (t : Target) (f d : ℕ) (cs ps : List Float) → (length s < 240) ⊎ (34048 < length s) → aim (no_aim 12) cs ps ≡ aim_input_of s t f d cs ps
+not_taken : (s : List ℕ) (t : Target) (f d : ℕ) (cs ps : List Float) → (length s < 240) ⊎ (34048 < length s)
+    → aim (no_aim 12) cs ps ≡ aim_input_of s t f d cs ps
 unfolding aim_input_of
 not_taken s t f d cs ps (inl h) = rw (lt-leb 240 (length s) h)
 not_taken s t f d cs ps (inr h) = rw (le-leb 240 (length s) (omega arith), lt-leb (length s) 34048 h)
@@ -23,4 +24,13 @@ unfolding aim_input_of
 returns-clause-given c =
     let s = c.args.input.now in
     let p = c.in_ok-head.ensures in
-    rw (le-leb 240 (length s) p.0, le-leb (length s) 34048 p.1, ← p.3, ← shot_of_head s false, ← p.2, ← c.in_ok-head.head-is, ← c.in_ok-head.sheet-is, ← c.shot_of-shot.ensures) c.aim.ensures.given
+    rw (
+      le-leb 240 (length s) p.0,
+      le-leb (length s) 34048 p.1,
+      ← p.3,
+      ← shot_of_head s false,
+      ← p.2,
+      ← c.in_ok-head.head-is,
+      ← c.in_ok-head.sheet-is,
+      ← c.shot_of-shot.ensures,
+    ) c.aim.ensures.given

@@ -20,7 +20,8 @@ pub returns-in-Break : goal.returns-in-Break
 unfolding find_root
 returns-in-Break c =
     rw (← c.start_search-s.ensures)
-    (c.loop-made.invariant.left _ _ (root_at _ _ _ _ c.loop-made-test.true c.in_bracket-x.ensures c.clearance_at.ensures c.in_ok-fx.was c.in-Break.ensures refl))
+    (c.loop-made.invariant.left _ _
+    (root_at _ _ _ _ c.loop-made-test.true c.in_bracket-x.ensures c.clearance_at.ensures c.in_ok-fx.was c.in-Break.ensures refl))
 
 pub loop-made-preserved : goal.loop-made-preserved
 loop-made-preserved c =

@@ -37,7 +37,8 @@ module _ (l : List Float) (s : Sent) where
   no_end e = let q = not_ended s.termination e in rw (q.0, q.1)
 
   module _ {t : Option Termination} (e : Ok t ≡ end_of s.termination) {b c : Board} (h : b ≡ board_at l) where
-    back : (r : Refusal) → answered (number_of r) c ≡ enter_of b (record { shot = s.shot; bay = s.bay; termination = t; contacts = s.contacts; x = s.x; z = s.z })
+    back : (r : Refusal)
+        → answered (number_of r) c ≡ enter_of b (record { shot = s.shot; bay = s.bay; termination = t; contacts = s.contacts; x = s.x; z = s.z })
         → door (number_of r) l ≡ entered (sent_of (board_at l) s) l
     unfolding sent_of entered
     back r k = let q = ended s.termination e in rw (q.0, ← h, ← q.1, ← k, ne_eqb _ 0 (never_0 r))

@@ -8,5 +8,6 @@ run-run-requires c = limit_of _ _ _ _ c.requires c.conditions-c.ensures
 pub returns : goal.returns
 returns c =
     rw c.report.ensures
-    (settled_whole _ _ _ _ c.run-run.result c.requires c.conditions-c.ensures c.zero_from.ensures c.zero_from-2.ensures c.run-run.ensures c.run-run.auto.contacts
+    (settled_whole _ _ _ _ c.run-run.result c.requires c.conditions-c.ensures c.zero_from.ensures c.zero_from-2.ensures c.run-run.ensures
+    c.run-run.auto.contacts
     c.run-run.auto.points)

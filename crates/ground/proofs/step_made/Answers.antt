@@ -29,7 +29,8 @@ returns-in_err-state c =
     (passes _ _
     (passes _ _ begun (rw (c.new-tally.ensures, c.scanned-course.ensures) at (c.look.ensures [] [])) c.in_ok-at.was)
     (rw (c.contact_step-moved.ensures, c.scanned-course.ensures) at (c.look-2.ensures [] [])) c.in_ok-under.was)
-    (rw (c.onto_surface-placed.ensures, c.radius_m.ensures, c.contact_step-moved.ensures) at (c.test.ensures (course_of c.args.sheet) [] [])) c.in_err-state.was)))
+    (rw (c.onto_surface-placed.ensures, c.radius_m.ensures, c.contact_step-moved.ensures) at
+    (c.test.ensures (course_of c.args.sheet) [] [])) c.in_err-state.was)))
 
 pub returns : goal.returns
 unfolding step_run
@@ -39,4 +40,5 @@ returns c =
     (passes _ _
     (passes _ _ begun (rw (c.new-tally.ensures, c.scanned-course.ensures) at (c.look.ensures [] [])) c.in_ok-at.was)
     (rw (c.contact_step-moved.ensures, c.scanned-course.ensures) at (c.look-2.ensures [] [])) c.in_ok-under.was)
-    (rw (c.onto_surface-placed.ensures, c.radius_m.ensures, c.contact_step-moved.ensures) at (c.test.ensures (course_of c.args.sheet) [] [])) c.in_ok-state.was)))
+    (rw (c.onto_surface-placed.ensures, c.radius_m.ensures, c.contact_step-moved.ensures) at
+    (c.test.ensures (course_of c.args.sheet) [] [])) c.in_ok-state.was)))

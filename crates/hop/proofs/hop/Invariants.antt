@@ -12,7 +12,8 @@ use Rattle.hop.proofs.hop.Given as goal
 
 abbrev pub invariant-loop-aero : goal.invariant-loop-aero
 invariant-loop-aero l = (lc : List Float) →
-    Midway (course_of l.fn.course) l.fn.c (λ f. is_late f.state.time l.fn.c.t_end) (λ f. pure (Late f.state)) (hop_step l.fn.c (air_with l.fn.c l.aero)) l.fn.flight
+    Midway (course_of l.fn.course) l.fn.c (λ f. is_late f.state.time l.fn.c.t_end) (λ f. pure (Late f.state))
+    (hop_step l.fn.c (air_with l.fn.c l.aero)) l.fn.flight
     (place l.fn.t lc l.fn.points) l.f (place l.t lc l.points)
 
 abbrev pub decreases-loop-aero : goal.decreases-loop-aero

@@ -13,7 +13,8 @@ use Rattle.hop.proofs.hop_step.Goals as goal
 
 pub returns-in_err-b : goal.returns-in_err-b
 returns-in_err-b c lc =
-    rw (failed _ c.from_residual.ensures.1) (ended (fails _ _ (stepped _ _ c.args.f.now c.step_arc-arc.ensures c.step_end-end_state.ensures c.count_step.ensures)
+    rw (failed _ c.from_residual.ensures.1)
+    (ended (fails _ _ (stepped _ _ c.args.f.now c.step_arc-arc.ensures c.step_end-end_state.ensures c.count_step.ensures)
     (c.test.ensures _ lc _) c.in_err-b.was))
 
 pub returns-in_err-end : goal.returns-in_err-end
@@ -28,7 +29,8 @@ arrive-requires c = omega (arith, c.count_step.ensures.work, (c.test.ensures (co
 pub returns-in_err-met : goal.returns-in_err-met
 returns-in_err-met c lc =
     rw (failed _ c.from_residual-in_err-met.ensures.1) (ended (arrive_off _ _ _ _ (hop_next c.args.f.now c.in_ok-b.b)
-    (searching _ _ c.args.f.now c.step_arc-arc.ensures c.step_end-end_state.ensures c.count_step.ensures c.test.ensures c.in_ok-b.was c.clear.ensures c.in_ok-end.was)
+    (searching _ _ c.args.f.now c.step_arc-arc.ensures c.step_end-end_state.ensures c.count_step.ensures c.test.ensures c.in_ok-b.was c.clear.ensures
+    c.in_ok-end.was)
     (omega (arith, c.count_step.ensures.work, (c.test.ensures (course_of []) [] []).work, (c.clear.ensures [] []).work)) c.arrive.ensures c.in_err-met.was))
 
 -- the search was made; no evaluation was made before it
@@ -37,17 +39,20 @@ came_met : (c : In_ok-met) (lc : List Float) → let a = c.args in
     (hop_next a.f.now c.in_ok-b.b c.in_ok-met.met) (place c.arrive.new.tally lc a.points.now)
 came_met c lc =
     arrived _ _ _ _ (hop_next c.args.f.now c.in_ok-b.b)
-    (searching _ _ c.args.f.now c.step_arc-arc.ensures c.step_end-end_state.ensures c.count_step.ensures c.test.ensures c.in_ok-b.was c.clear.ensures c.in_ok-end.was)
+    (searching _ _ c.args.f.now c.step_arc-arc.ensures c.step_end-end_state.ensures c.count_step.ensures c.test.ensures c.in_ok-b.was c.clear.ensures
+    c.in_ok-end.was)
     (omega (arith, c.count_step.ensures.work, (c.test.ensures (course_of []) [] []).work, (c.clear.ensures [] []).work)) c.arrive.ensures c.in_ok-met.was
 
 pub returns-in_err-s : goal.returns-in_err-s
 returns-in_err-s c lc =
-    rw (failed _ c.from_residual-in_err-s.ensures.1) (ended (fails _ _ (met c.args.f.now c.in_ok-b.b (came_met (goal.at.returns-in_err-s c).In_ok-met lc) c.in-Some.is)
+    rw (failed _ c.from_residual-in_err-s.ensures.1)
+    (ended (fails _ _ (met c.args.f.now c.in_ok-b.b (came_met (goal.at.returns-in_err-s c).In_ok-met lc) c.in-Some.is)
     (c.test-in-Some.ensures _ lc _) c.in_err-s.was))
 
 pub returns-in-Some : goal.returns-in-Some
 returns-in-Some c lc =
-    ended (passes _ _ (met c.args.f.now c.in_ok-b.b (came_met (goal.at.returns-in-Some c).In_ok-met lc) c.in-Some.is) (c.test-in-Some.ensures _ lc _) c.in_ok-s.was)
+    ended (passes _ _ (met c.args.f.now c.in_ok-b.b (came_met (goal.at.returns-in-Some c).In_ok-met lc) c.in-Some.is)
+    (c.test-in-Some.ensures _ lc _) c.in_ok-s.was)
 
 pub returns-in_err-push_due : goal.returns-in_err-push_due
 returns-in_err-push_due c lc =

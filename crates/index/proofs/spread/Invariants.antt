@@ -7,7 +7,8 @@ use Rattle.index.proofs.spread.Given as goal
 abbrev pub invariant-loop-i : goal.invariant-loop-i
 invariant-loop-i l =
     (least_from l.sheet l.d (surfaces l.sheet + patches l.sheet - l.i) l.i l.lo ≡ least_from l.sheet l.d (patches l.sheet) (surfaces l.sheet) l.initial.lo)
-    × (greatest_from l.sheet l.d (surfaces l.sheet + patches l.sheet - l.i) l.i l.hi ≡ greatest_from l.sheet l.d (patches l.sheet) (surfaces l.sheet) l.initial.hi)
+    × (greatest_from l.sheet l.d (surfaces l.sheet + patches l.sheet - l.i) l.i l.hi ≡ greatest_from l.sheet l.d (patches l.sheet)
+    (surfaces l.sheet) l.initial.hi)
 
 -- the cuts that are left
 abbrev pub invariant-loop-k : goal.invariant-loop-k

@@ -19,7 +19,16 @@ returns-in-Ok c =
     let a = c.args in
     let s = a.input.now in
     let p = c.in-Ok.ensures in
-    rw (le-leb 240 (length s) p.0, le-leb (length s) 34048 p.1, ← p.3, ← shot_of_head s a.fading, ← p.2, ← c.in-Ok.head-is, ← c.in-Ok.sheet-is, ← c.shot_of.ensures) c.settle.ensures
+    rw (
+      le-leb 240 (length s) p.0,
+      le-leb (length s) 34048 p.1,
+      ← p.3,
+      ← shot_of_head s a.fading,
+      ← p.2,
+      ← c.in-Ok.head-is,
+      ← c.in-Ok.sheet-is,
+      ← c.shot_of.ensures,
+    ) c.settle.ensures
 
 pub returns-in-Err : goal.returns-in-Err
 returns-in-Err c =

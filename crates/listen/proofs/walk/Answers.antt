@@ -51,6 +51,7 @@ returns c =
     let k = firsts_length 20 a.n a.contacts.now in
     let j : l.j ≤ a.n = omega (arith, l.invariant.contacts) in
     let m = filled l.marks l.i (length a.heard.now) 1 l.invariant.heard (omega (arith, l.invariant.long)) (c.fill.ensures.after (λ y e. e)) in
-    let o : length a.heard.now + a.n ≤ length (put_mid l.i (length a.heard.now - l.i) l.marks c.fill.new.self) = rw (m, length-sets) (omega (arith, l.invariant.long)) in
+    let o : length a.heard.now + a.n ≤ length (put_mid l.i (length a.heard.now - l.i) l.marks c.fill.new.self) = rw (m, length-sets)
+    (omega (arith, l.invariant.long)) in
     ends a.n _ _ l.invariant k (either l.i (length a.heard.now) l.j a.n c.loop-i-test.false) m
     (filled _ (length a.heard.now + l.j) (length a.heard.now + a.n) 2 (omega arith) o (c.fill-2.ensures.after (λ y e. e)))

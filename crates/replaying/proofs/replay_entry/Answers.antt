@@ -1,4 +1,5 @@
-use Rattle.std.proofs.Common.{arith, ◌≡◌, ℕ, ◌+◌, ◌*◌, ◌-◌, ◌≤◌, Bool, cond, List, length, take, drop, replicate, sym, refl, ap, ◌∙◌, ap₂, eq-eqb, ne_eqb, le-leb}
+use Rattle.std.proofs.Common.{arith, ◌≡◌, ℕ, ◌+◌, ◌*◌, ◌-◌, ◌≤◌, Bool, cond, List, length, take, drop, replicate, sym, refl, ap, ◌∙◌, ap₂, eq-eqb, ne_eqb}
+use Rattle.std.proofs.Common.{le-leb}
 use lib.Ieee.{Float, binary64, of_bits, round}
 use borrow.Author.Tests.{lt-leb}
 use Rattle.number.specs.Ops.{dec}

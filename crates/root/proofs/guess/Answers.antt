@@ -8,7 +8,8 @@ use Rattle.root.specs.Inner.{SureBits}
 use Rattle.root.specs.Guess.{guess_of}
 use Rattle.number.specs.Nan.{ne_self}
 use Rattle.root.proofs.guess.Goals as goal
-use Rattle.root.proofs.guess.Goals.{then-b-lt4503599627370496-via-then-b-lt4503599627370496, then-b-lt4503599627370496-via-else-b-lt4503599627370496+then-b-ge9218868437227405312}
+use Rattle.root.proofs.guess.Goals.{then-b-lt4503599627370496-via-then-b-lt4503599627370496}
+use Rattle.root.proofs.guess.Goals.{then-b-lt4503599627370496-via-else-b-lt4503599627370496+then-b-ge9218868437227405312}
 
 pub returns-then-is_nan-clause-bits : goal.returns-then-is_nan-clause-bits
 unfolding guess_of
@@ -18,7 +19,8 @@ pub returns-then-b-lt4503599627370496-clause-bits : goal.returns-then-b-lt450359
 unfolding guess_of
 returns-then-b-lt4503599627370496-clause-bits c = rw (ne_self, ← c.is_nan.ensures.value, c.if-is_nan.false) (elim c.then-b-lt4503599627370496.branch [
   | then-b-lt4503599627370496-via-then-b-lt4503599627370496 w ↦ rw (lt-ltb _ _ w.if-b-lt4503599627370496.true)
-  | then-b-lt4503599627370496-via-else-b-lt4503599627370496+then-b-ge9218868437227405312 w ↦ rw (le-ltb _ _ w.if-b-lt4503599627370496.false, le-leb _ _ w.if-b-ge9218868437227405312.true)
+  | then-b-lt4503599627370496-via-else-b-lt4503599627370496+then-b-ge9218868437227405312 w ↦ rw
+      (le-ltb _ _ w.if-b-lt4503599627370496.false, le-leb _ _ w.if-b-ge9218868437227405312.true)
 ])
 
 pub returns-then-is_nan-2-clause-bits : goal.returns-then-is_nan-2-clause-bits

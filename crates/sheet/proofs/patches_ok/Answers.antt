@@ -7,5 +7,6 @@ use Rattle.sheet.proofs.patches_ok.Goals as goal
 
 pub returns : goal.returns
 returns c =
-    all_from_yields_List (patch_ok c.args.sheet.now) _ _ c.all.result c.all.ensures.ran (YieldsList-from_range c.args.count (c.args.count + c.args.n) c.args.n (cc) (omega arith)) (λ x b q k. search (rules, tests))
+    all_from_yields_List (patch_ok c.args.sheet.now) _ _ c.all.result c.all.ensures.ran
+    (YieldsList-from_range c.args.count (c.args.count + c.args.n) c.args.n (cc) (omega arith)) (λ x b q k. search (rules, tests))
     ∙ all_range (patch_ok c.args.sheet.now) c.args.n c.args.count

@@ -21,10 +21,12 @@ returns-in_err-held c =
 pub returns-in_err-save : goal.returns-in_err-save
 returns-in_err-save c =
     rw (failed c.from_residual-in_err-save.result c.from_residual-in_err-save.ensures.1)
-    (save_back _ _ (c.in-Some.ensures.variant.0 refl) c.in-Some.ensures.cases.same c.args.name.now c.args.state.now c.if-state-ne10.false c.in_err-save.field-0.0 c.in_ok-held.ensures
+    (save_back _ _ (c.in-Some.ensures.variant.0 refl) c.in-Some.ensures.cases.same c.args.name.now c.args.state.now c.if-state-ne10.false
+    c.in_err-save.field-0.0 c.in_ok-held.ensures
     (rw c.state_at.ensures at c.in_err-save.ensures))
 
 pub returns : goal.returns
 returns c =
-    save_taken _ _ (c.in-Some.ensures.variant.0 refl) c.in-Some.ensures.cases.same c.args.name.now c.args.state.now c.if-state-ne10.false c.in_ok-held.ensures (rw c.state_at.ensures at c.in_ok-save.ensures)
+    save_taken _ _ (c.in-Some.ensures.variant.0 refl) c.in-Some.ensures.cases.same c.args.name.now c.args.state.now c.if-state-ne10.false
+    c.in_ok-held.ensures (rw c.state_at.ensures at c.in_ok-save.ensures)
     c.write_shelf.ensures

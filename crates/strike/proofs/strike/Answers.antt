@@ -12,9 +12,11 @@ pub returns-in_err-out : goal.returns-in_err-out
 unfolding strike
 returns-in_err-out c lc lp =
     rw (failed _ c.from_residual-in_err-out.ensures.1)
-    (ended (fails _ _ (passes _ _ begun (c.look.ensures lc lp) c.in_ok-at.was) (rw c.impact-hit.ensures at (c.test.ensures (course_of c.args.course.now) lc lp)) c.in_err-out.was))
+    (ended (fails _ _ (passes _ _ begun (c.look.ensures lc lp) c.in_ok-at.was)
+    (rw c.impact-hit.ensures at (c.test.ensures (course_of c.args.course.now) lc lp)) c.in_err-out.was))
 
 pub returns : goal.returns
 unfolding strike
 returns c lc lp =
-    ended (passes _ _ (passes _ _ begun (c.look.ensures lc lp) c.in_ok-at.was) (rw c.impact-hit.ensures at (c.test.ensures (course_of c.args.course.now) lc lp)) c.in_ok-out.was)
+    ended (passes _ _ (passes _ _ begun (c.look.ensures lc lp) c.in_ok-at.was)
+    (rw c.impact-hit.ensures at (c.test.ensures (course_of c.args.course.now) lc lp)) c.in_ok-out.was)

@@ -27,7 +27,8 @@ came_fly c =
     c.fly.ensures c.in_ok-flown.was
 
 -- its contact was pushed: one more, for which there was room
-one_more : (c : In_ok-push_contact) → let k = c.push_contact.new.self.contacts in (k ≡ c.loop-hit.t.contacts + 1) × (k * contact_width ≤ length c.args.contacts.now)
+one_more : (c : In_ok-push_contact)
+    → let k = c.push_contact.new.self.contacts in (k ≡ c.loop-hit.t.contacts + 1) × (k * contact_width ≤ length c.args.contacts.now)
 one_more c =
     let e = no_contact (λ lc. c.strike.ensures lc []) in
     let i = no_contact c.fly.ensures in
@@ -45,7 +46,8 @@ is_last-requires c = omega (arith, c.loop-hit.invariant.room, c.well_formed)
 
 pub returns-then-is_last : goal.returns-then-is_last
 returns-then-is_last c =
-    ends_last _ _ _ _ _ (struck _ _ _ c.loop-hit.invariant.reached c.strike.ensures c.in_ok-hit.was c.rebounds-hops.ensures) c.last_impact.result c.is_last.ensures
+    ends_last _ _ _ _ _ (struck _ _ _ c.loop-hit.invariant.reached c.strike.ensures c.in_ok-hit.was c.rebounds-hops.ensures) c.last_impact.result
+    c.is_last.ensures
     c.if-is_last.true c.last_impact.ensures
 
 pub fly-requires : goal.fly-requires
@@ -54,7 +56,8 @@ fly-requires c = bounded (goal.at.fly-requires c).In_ok-hit
 pub returns-in_err-flown : goal.returns-in_err-flown
 returns-in_err-flown c =
     rw (failed _ c.from_residual-in_err-flown.ensures.1)
-    (ends_flight _ _ _ _ _ (struck _ _ _ c.loop-hit.invariant.reached c.strike.ensures c.in_ok-hit.was c.rebounds-hops.ensures) c.is_last.ensures c.if-is_last.false
+    (ends_flight _ _ _ _ _
+    (struck _ _ _ c.loop-hit.invariant.reached c.strike.ensures c.in_ok-hit.was c.rebounds-hops.ensures) c.is_last.ensures c.if-is_last.false
     c.fly.ensures c.in_err-flown.was)
 
 pub returns-in_err-state : goal.returns-in_err-state

@@ -8,4 +8,5 @@ returns-in_err-self c =
     rw (failed _ c.from_residual.ensures.1, n.1) (no_contact _ _ _ c.write_contact-pushed.ensures n.0)
 
 pub returns : goal.returns
-returns c = contact_pushed _ _ _ c.write_contact-pushed.ensures c.write_contact-pushed.auto.contacts (had_room _ _ (rw c.ok_or.ensures.value at c.in_ok-self.was))
+returns c = contact_pushed _ _ _ c.write_contact-pushed.ensures c.write_contact-pushed.auto.contacts
+    (had_room _ _ (rw c.ok_or.ensures.value at c.in_ok-self.was))
