@@ -8,18 +8,45 @@ ghost use Rattle.root.specs.Inner.{Near, Aligned, Radicand, RootBits, SureBits};
 ghost use Rattle.std.specs.Option.{ForSome, unwrap_or};
 ghost use Rattle.root.specs.Guess.{cut_of, estimate_of, is_near, is_sure, guess_of};
 
-// The whole number nearest the root of m * 2^52, binary digit by binary digit. m's range is asked here and below: as a type of its own it would be
-// unpacked at each of these sums.
+// 2^52: the place of the exponent's field among the bits of a double, and that of the leading one of its 53 digits, which has no bit.
+const FIELD: u64 = 4503599627370496;
+
+const LEADING: u64 = 4503599627370496;
+
+// 2^53, the next place: a number of 53 digits is below it, and by it half of the field is read.
+const NEXT: u64 = 9007199254740992;
+
+// 1023 in the field's place: the bits of 1.
+const BIAS: u64 = 4607182418800017408;
+
+// The bits of infinity, which are above those of every finite double from +0 on, and the bits of -0.
+const INFINITY: u64 = 9218868437227405312;
+
+const MINUS_ZERO: u64 = 9223372036854775808;
+
+// About 3 * BIAS: (SEED - b) / 2, for the bits b of x, are the bits of the seed from which `estimate` starts.
+const SEED: u64 = 13823763871841648640;
+
+// 2^27 and 2^21, where 53 digits are split: in 26 and 27, and in 32 and 21.
+const MIDDLE: u64 = 134217728;
+
+const SPLIT: u64 = 2097152;
+
+// 2^24: in `corrected`, so many times 2^28 is 2^52.
+const SCALE: u64 = 16777216;
+
+// The whole number nearest the root of m * 2^52, binary digit by binary digit. m's range, up to 2^54 - 2, is asked here and below: as a type of its own it
+// would be unpacked at each of these sums.
 fn digits(m: u64) -> u64
-    requires { (4503599627370496 ≤ m) × (m < 18014398509481983) }
+    requires { (LEADING ≤ m) × (m < 18014398509481983) }
     ensures { Near m result }
 {
     let mut root = 0u64;
     let mut rem = 0u64;
     let mut rest = m;
     for _ in 0..53u64 {
-        let c = rem * 4 + rest / 4503599627370496;
-        rest = rest % 4503599627370496 * 4;
+        let c = rem * 4 + rest / LEADING;
+        rest = rest % LEADING * 4;
         let t = root * 4 + 1;
         if c < t {
             rem = c;
@@ -32,24 +59,25 @@ fn digits(m: u64) -> u64
     if root < rem { root + 1 } else { root }
 }
 
-// The same, from an estimate r that may be off by 1. With r = a * 2^27 + b the difference m * 2^52 - r * r is g - s, worked out in 64 bits.
-// Where a step would not fit, or the difference shows that r is off by more than 1, the digit loop is used.
+// The same, from an estimate r that may be off by 1. With r = a * 2^27 + b the difference m * 2^52 - r * r is g - s, worked out in 64 bits: g is
+// 2^28 (2^24 (m + 64 - 4 a a) - a b), and s is b b + 2^58. 64 is added to m, and 2^58 to b b, so that nothing is below 0. Where a step would not fit, which
+// e from 2^38 on and f from 2^35 on might lead to, or the difference shows that r is off by more than 1, the digit loop is used.
 fn corrected(m: u64, r: u64) -> u64
-    requires { ((4503599627370496 ≤ m) × (m < 18014398509481983)) × ((4503599627370496 ≤ r) × (r < 9007199254740992)) }
+    requires { ((LEADING ≤ m) × (m < 18014398509481983)) × ((LEADING ≤ r) × (r < NEXT)) }
     ensures { Near m result }
 {
-    let a = r / 134217728;
-    let b = r % 134217728;
+    let a = r / MIDDLE;
+    let b = r % MIDDLE;
     let q = a * a * 4;
     if m + 64 < q {
         return digits(m);
     }
     let e = m + 64 - q;
     let p = a * b;
-    if e >= 274877906944 || e * 16777216 < p {
+    if e >= 274877906944 || e * SCALE < p {
         return digits(m);
     }
-    let f = e * 16777216 - p;
+    let f = e * SCALE - p;
     if f >= 34359738368 {
         return digits(m);
     }
@@ -62,7 +90,7 @@ fn corrected(m: u64, r: u64) -> u64
     } else {
         r
     };
-    if s + 2 < g + r * 3 && g <= s + r * 3 + 2 && 4503599627370496 <= t && t < 9007199254740992 {
+    if s + 2 < g + r * 3 && g <= s + r * 3 + 2 && LEADING <= t && t < NEXT {
         t
     } else {
         digits(m)
@@ -74,17 +102,17 @@ fn cut(s: f64) -> f64
     requires { T (not (is_nan s)) }
     ensures { result ≡ cut_of s }
 {
-    f64::from_bits(s.to_bits() / 134217728 * 134217728)
+    f64::from_bits(s.to_bits() / MIDDLE * MIDDLE)
 }
 
 // An estimate of the root of the positive double x, of which b are the bits. y0 is a seed for a multiple of 1 / root x, and t a multiple of x * y0 * y0, within 12.5%.
 // f * q is a cubic in t; y is 1 / (2 root x) to 2^-21. sh is the first estimate of the root cut to 26 digits, so that sh * sh and sh * sh - x are exact.
 #[tactic(auto, using(crate::proofs::Patterns::no_nan))]
 fn estimate(x: f64, b: u64) -> f64
-    requires { b < 9218868437227405312 }
+    requires { b < INFINITY }
     ensures { result ≡ estimate_of x b }
 {
-    let y0 = f64::from_bits((13823763871841648640 - b) / 2);
+    let y0 = f64::from_bits((SEED - b) / 2);
     let t = x * 0.3149496573049748 * y0 * y0;
     let f = 1.260772897610097 - t;
     let q = t * (t - 0.8359733378808787) + 0.6896020179381465;
@@ -103,18 +131,18 @@ fn estimate(x: f64, b: u64) -> f64
 // True only if r is the whole number nearest the root of m * 2^52. With r = a * 2^21 + u and l = 2 u + 1, (2 r + 1)^2 - 4 m 2^52 is 2^23 (a l - 2^21 (1024 m - a a)) + l l,
 // and r is the nearest where that is neither below 0 nor above 8 r. 1024 is added to 1024 m - a a, and 2^31 to the left of the test, so that nothing is below 0.
 fn is_near(m: u64, r: u64) -> bool
-    requires { ((4503599627370496 ≤ m) × (m < 18014398509481983)) × ((4503599627370496 ≤ r) × (r < 9007199254740992)) }
+    requires { ((LEADING ≤ m) × (m < 18014398509481983)) × ((LEADING ≤ r) × (r < NEXT)) }
     ensures { (result ≡ true → Near m r) × (result ≡ is_near m r) }
 {
-    let a = r / 2097152;
+    let a = r / SPLIT;
     let k = a * a;
     let n = m * 1024 + 1024;
     if n < k || n - k >= a * 4 {
         return false;
     }
     let d = n - k;
-    let h = d * 2097152;
-    let l = r % 2097152 * 2 + 1;
+    let h = d * SPLIT;
+    let l = r % SPLIT * 2 + 1;
     let p = a * l + l * l / 8388608 + 2147483648;
     // Apart: joined by `&&`, both tests are worked out on the machine, and in the hot path.
     if p < h {
@@ -128,28 +156,23 @@ fn is_near(m: u64, r: u64) -> bool
 fn radicand(w: u64) -> u64
     ensures { Radicand w result }
 {
-    let t = w % 4503599627370496 + 4503599627370496;
-    if w / 4503599627370496 % 2 == 1 {
-        t * 2
-    } else {
-        t
-    }
+    let t = w % FIELD + LEADING;
+    if w / FIELD % 2 == 1 { t * 2 } else { t }
 }
 
 // True only if w are the bits of the root of the normal double with the bits b.
 fn sure(b: u64, w: u64) -> bool
-    requires { (4503599627370496 ≤ b) × (b < 9218868437227405312) }
+    requires { (FIELD ≤ b) × (b < INFINITY) }
     ensures { (result ≡ true → RootBits b w) × (result ≡ is_sure b w) }
 {
-    let v = b + 4607182418800017408;
-    w / 4503599627370496 == v / 9007199254740992
-        && is_near(radicand(v), w % 4503599627370496 + 4503599627370496)
+    let v = b + BIAS;
+    w / FIELD == v / NEXT && is_near(radicand(v), w % FIELD + LEADING)
 }
 
 // The whole number nearest the root of m * 2^52. p are the bits of m / 2^52.
 #[tactic(auto, using(crate::proofs::Patterns::no_nan))]
 fn near(m: u64, p: u64) -> u64
-    requires { ((4503599627370496 ≤ m) × (m < 18014398509481983)) × (p < 9218868437227405312) }
+    requires { ((LEADING ≤ m) × (m < 18014398509481983)) × (p < INFINITY) }
     ensures { Near m result }
 {
     let w = estimate(f64::from_bits(p), p);
@@ -157,31 +180,31 @@ fn near(m: u64, p: u64) -> u64
         return digits(m);
     }
     let b = w.to_bits();
-    corrected(m, b % 4503599627370496 + 4503599627370496)
+    corrected(m, b % FIELD + LEADING)
 }
 
 // The exponent's field plus 1023 and the 52 digits of the double with the bits b. A subnormal is normalized.
 fn aligned(b: u64) -> u64
-    requires { (0 < b) × (b < 9218868437227405312) }
+    requires { (0 < b) × (b < INFINITY) }
     ensures { Aligned b result }
 {
-    if b >= 4503599627370496 {
-        return b + 4607182418800017408;
+    if b >= FIELD {
+        return b + BIAS;
     }
     let j = 52 - b.ilog2();
-    (b << j) - 4503599627370496 + (1024 - j as u64) * 4503599627370496
+    (b << j) - LEADING + (1024 - j as u64) * FIELD
 }
 
 // The bits of the root of the finite double above 0 with the bits b.
 fn positive(b: u64) -> u64
-    requires { (0 < b) × (b < 9218868437227405312) }
+    requires { (0 < b) × (b < INFINITY) }
     ensures { RootBits b result }
 {
     let w = aligned(b);
-    let g = w / 4503599627370496;
+    let g = w / FIELD;
     let m = radicand(w);
-    let p = w % 4503599627370496 + (1023 + g % 2) * 4503599627370496;
-    near(m, p) + (g / 2 - 1) * 4503599627370496
+    let p = w % FIELD + (1023 + g % 2) * FIELD;
+    near(m, p) + (g / 2 - 1) * FIELD
 }
 
 // The bits of the root of x; none where x is no normal double above 0, or its estimate is not sure. How often that is, is not proved: `compare speed` counts it.
@@ -193,7 +216,7 @@ pub fn guess(x: f64) -> Option<u64>
         return None;
     }
     let b = x.to_bits();
-    if b < 4503599627370496 || b >= 9218868437227405312 {
+    if b < FIELD || b >= INFINITY {
         return None;
     }
     let w = estimate(x, b);
@@ -204,7 +227,8 @@ pub fn guess(x: f64) -> Option<u64>
     if sure(b, r) { Some(r) } else { None }
 }
 
-// The root of any double, digit by digit at the worst.
+// The root of any double, digit by digit at the worst. Not in line: `root` mostly has its guess.
+#[inline(never)]
 #[tactic(auto, using(crate::proofs::Patterns::no_nan))]
 fn exact(x: f64) -> f64
     ensures { result ≡ root_of x }
@@ -215,11 +239,11 @@ fn exact(x: f64) -> f64
     let b = x.to_bits();
     if b == 0 {
         x
-    } else if b < 9218868437227405312 {
+    } else if b < INFINITY {
         f64::from_bits(positive(b))
-    } else if b == 9218868437227405312 {
+    } else if b == INFINITY {
         x
-    } else if b == 9223372036854775808 {
+    } else if b == MINUS_ZERO {
         -0.0
     } else {
         f64::NAN

@@ -4,8 +4,8 @@ use Rattle.root.proofs.Aligning.{Moved, normal, place, moved, subnormal}
 use Rattle.root.proofs.aligned.Goals as goal
 use Rattle.root.proofs.aligned.Goals.{After-ilog2-j}
 
-pub returns-then-b-ge4503599627370496 : goal.returns-then-b-ge4503599627370496
-returns-then-b-ge4503599627370496 c = normal _ c.if-b-ge4503599627370496.true c.requires.1
+pub returns-then-b-ge-FIELD : goal.returns-then-b-ge-FIELD
+returns-then-b-ge-FIELD c = normal _ c.if-b-ge-FIELD.true c.requires.1
 
 up : (c : After-ilog2-j) → Moved c.args.b (c.args.b * 2 ^ (52 - c.ilog2-j.result) % 18446744073709551616) (52 - c.ilog2-j.result)
 up c = moved _ _ c.ilog2-j.ensures.power_le c.ilog2-j.ensures.next_power_gt (omega arith)

@@ -19,15 +19,15 @@ returns-then-is_nan c = at_nan _ (differs_from_itself _ (rw (ne_self, ← c.is_n
 pub returns-then-b-eq0 : goal.returns-then-b-eq0
 returns-then-b-eq0 c = at_zero _ (held _ c.well_formed.0.1) c.if-b-eq0.true
 
-pub returns-then-b-lt9218868437227405312 : goal.returns-then-b-lt9218868437227405312
-returns-then-b-lt9218868437227405312 c = c.positive.ensures.is ∙ ap root_of (of_bits-to_bits binary64 _ (held _ c.well_formed.0.1))
+pub returns-then-b-lt-INFINITY : goal.returns-then-b-lt-INFINITY
+returns-then-b-lt-INFINITY c = c.positive.ensures.is ∙ ap root_of (of_bits-to_bits binary64 _ (held _ c.well_formed.0.1))
 
-pub returns-then-b-eq9218868437227405312 : goal.returns-then-b-eq9218868437227405312
-returns-then-b-eq9218868437227405312 c = at_infinity _ (held _ c.well_formed.0.1) c.if-b-eq9218868437227405312.true
+pub returns-then-b-eq-INFINITY : goal.returns-then-b-eq-INFINITY
+returns-then-b-eq-INFINITY c = at_infinity _ (held _ c.well_formed.0.1) c.if-b-eq-INFINITY.true
 
 pub returns-then-b : goal.returns-then-b
 returns-then-b c = at_minus_zero _ (held _ c.well_formed.0.1) c.if-b.true
 
 pub returns-else-b : goal.returns-else-b
 unfolding of_bits div
-returns-else-b c = at_minus _ (held _ c.well_formed.0.1) (c.if-is_nan.ensures.not_nan) (omega arith) c.if-b-eq9218868437227405312.false c.if-b.false
+returns-else-b c = at_minus _ (held _ c.well_formed.0.1) (c.if-is_nan.ensures.not_nan) (omega arith) c.if-b-eq-INFINITY.false c.if-b.false

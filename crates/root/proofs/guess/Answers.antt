@@ -8,19 +8,17 @@ use Rattle.root.specs.Inner.{SureBits}
 use Rattle.root.specs.Guess.{guess_of}
 use Rattle.number.specs.Nan.{ne_self}
 use Rattle.root.proofs.guess.Goals as goal
-use Rattle.root.proofs.guess.Goals.{then-b-lt4503599627370496-via-then-b-lt4503599627370496}
-use Rattle.root.proofs.guess.Goals.{then-b-lt4503599627370496-via-else-b-lt4503599627370496+then-b-ge9218868437227405312}
+use Rattle.root.proofs.guess.Goals.{then-b-lt-FIELD-via-then-b-lt-FIELD, then-b-lt-FIELD-via-else-b-lt-FIELD+then-b-ge-INFINITY}
 
 pub returns-then-is_nan-clause-bits : goal.returns-then-is_nan-clause-bits
 unfolding guess_of
 returns-then-is_nan-clause-bits c = rw (ne_self, ← c.is_nan.ensures.value, c.if-is_nan.true)
 
-pub returns-then-b-lt4503599627370496-clause-bits : goal.returns-then-b-lt4503599627370496-clause-bits
+pub returns-then-b-lt-FIELD-clause-bits : goal.returns-then-b-lt-FIELD-clause-bits
 unfolding guess_of
-returns-then-b-lt4503599627370496-clause-bits c = rw (ne_self, ← c.is_nan.ensures.value, c.if-is_nan.false) (elim c.then-b-lt4503599627370496.branch [
-  | then-b-lt4503599627370496-via-then-b-lt4503599627370496 w ↦ rw (lt-ltb _ _ w.if-b-lt4503599627370496.true)
-  | then-b-lt4503599627370496-via-else-b-lt4503599627370496+then-b-ge9218868437227405312 w ↦ rw
-      (le-ltb _ _ w.if-b-lt4503599627370496.false, le-leb _ _ w.if-b-ge9218868437227405312.true)
+returns-then-b-lt-FIELD-clause-bits c = rw (ne_self, ← c.is_nan.ensures.value, c.if-is_nan.false) (elim c.then-b-lt-FIELD.branch [
+  | then-b-lt-FIELD-via-then-b-lt-FIELD w ↦ rw (lt-ltb _ _ w.if-b-lt-FIELD.true)
+  | then-b-lt-FIELD-via-else-b-lt-FIELD+then-b-ge-INFINITY w ↦ rw (le-ltb _ _ w.if-b-lt-FIELD.false, le-leb _ _ w.if-b-ge-INFINITY.true)
 ])
 
 pub returns-then-is_nan-2-clause-bits : goal.returns-then-is_nan-2-clause-bits
@@ -30,8 +28,8 @@ returns-then-is_nan-2-clause-bits c = rw (
   ne_self c.args.x,
   ← c.is_nan.ensures.value,
   c.if-is_nan.false,
-  le-ltb _ _ c.if-b-lt4503599627370496.false,
-  lt-leb _ _ c.if-b-ge9218868437227405312.false,
+  le-ltb _ _ c.if-b-lt-FIELD.false,
+  lt-leb _ _ c.if-b-ge-INFINITY.false,
   ne_self,
   ← c.is_nan-2.ensures.value,
   c.if-is_nan-2.true,
@@ -51,8 +49,8 @@ returns-then-sure-clause-bits c = rw (
   ne_self c.args.x,
   ← c.is_nan.ensures.value,
   c.if-is_nan.false,
-  le-ltb _ _ c.if-b-lt4503599627370496.false,
-  lt-leb _ _ c.if-b-ge9218868437227405312.false,
+  le-ltb _ _ c.if-b-lt-FIELD.false,
+  lt-leb _ _ c.if-b-ge-INFINITY.false,
   ne_self,
   ← c.is_nan-2.ensures.value,
   c.if-is_nan-2.false,
@@ -67,8 +65,8 @@ returns-else-sure-clause-bits c = rw (
   ne_self c.args.x,
   ← c.is_nan.ensures.value,
   c.if-is_nan.false,
-  le-ltb _ _ c.if-b-lt4503599627370496.false,
-  lt-leb _ _ c.if-b-ge9218868437227405312.false,
+  le-ltb _ _ c.if-b-lt-FIELD.false,
+  lt-leb _ _ c.if-b-ge-INFINITY.false,
   ne_self,
   ← c.is_nan-2.ensures.value,
   c.if-is_nan-2.false,
