@@ -1,1 +1,2 @@
 pub mod Aero
+pub mod Crisis

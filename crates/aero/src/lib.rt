@@ -1,9 +1,12 @@
 // The ball and its flight through the air: drag, Magnus lift and gravity.
 #![tactic(auto)]
 
-ghost use Rattle.std.specs.Prelude.{◌≡◌};
+ghost use Rattle.std.specs.Prelude.{◌≡◌, true};
 ghost use Rattle.aero.specs.Aero.{tour, radius_of, area_of, cd_cl_of, magnus_of, from_spin_vector, acceleration_of};
+ghost use Rattle.aero.specs.Crisis.{Kept, sigma_of, crisis_of};
+ghost use Rattle.exponential.specs.Magnitude.{magnitude_of};
 
+use exponential::Magnitude;
 use number::PI;
 use vector::DVec3;
 
@@ -52,6 +55,28 @@ pub struct CdCl {
     pub cl: f64,
 }
 
+// 2^-54: sigma is no more where exp is vast.
+const SLIGHT: f64 = 5.5511151231257827021181583404541015625e-17;
+
+// Whether `sub` stays what it is with a part of up to 2^-54 of the way to `sup` added, of either sign.
+fn keeps(sub: f64, sup: f64) -> bool
+    ensures { result ≡ true → Kept sub sup }
+{
+    let part = (sup - sub) * SLIGHT;
+    (sub > 0.0) & number::is_finite(part) & (sub + part == sub)
+}
+
+// The share of the coefficients above the crisis: 1 where exp is slight.
+fn sigma_at(size: Magnitude, x: f64) -> f64
+    requires { size ≡ magnitude_of x }
+    ensures { result ≡ sigma_of x }
+{
+    match size {
+        Magnitude::Slight => 1.0,
+        _ => 1.0 / (1.0 + exponential::exp(x)),
+    }
+}
+
 impl BallModel {
     // Under the Rust's name, as its function.
     pub const TOUR: BallModel = BallModel {
@@ -89,6 +114,33 @@ impl BallModel {
         PI * self.radius_m() * self.radius_m()
     }
 
+    fn keeps_both(self) -> bool
+        ensures { result ≡ true → Kept self.cd_sub self.cd_super × Kept self.cl_sub self.cl_super }
+    {
+        keeps(self.cd_sub, self.cd_super) & keeps(self.cl_sub, self.cl_super)
+    }
+
+    // Both coefficients without spin's part, at x = (re_crit - re) / re_width. Far below the crisis sigma adds nothing to the coefficients there, so that
+    // no exponential is taken.
+    fn at_crisis(self, x: f64) -> CdCl
+        ensures { result ≡ crisis_of self x }
+    {
+        let size = exponential::how_large(x);
+        match size {
+            Magnitude::Vast if self.keeps_both() => CdCl {
+                cd: self.cd_sub,
+                cl: self.cl_sub,
+            },
+            _ => {
+                let sigma = sigma_at(size, x);
+                CdCl {
+                    cd: self.cd_sub + (self.cd_super - self.cd_sub) * sigma,
+                    cl: self.cl_sub + (self.cl_super - self.cl_sub) * sigma,
+                }
+            }
+        }
+    }
+
     // Drag and lift coefficient at the spin rate (rad/s), speed (m/s) and air density (kg/m³).
     pub fn cd_cl(self, spin_rate: f64, speed: f64, air_density: f64) -> CdCl
         ensures { result ≡ cd_cl_of self spin_rate speed air_density }
@@ -101,12 +153,11 @@ impl BallModel {
         }
         let re = air_density * speed * self.diameter_m / AIR_DYNAMIC_VISCOSITY;
         let sr = number::abs(spin_rate * self.radius_m() / speed);
-        let sigma = 1.0 / (1.0 + exponential::exp(-(re - self.re_crit) / self.re_width));
-        let cd_base = self.cd_sub + (self.cd_super - self.cd_sub) * sigma;
-        let cd = cd_base + self.cd_spin * sr / (1.0 + sr / self.sr_sat);
-        let cl_max = self.cl_sub + (self.cl_super - self.cl_sub) * sigma;
-        let cl = cl_max * (1.0 - exponential::exp(-sr / self.sr_scale));
-        CdCl { cd, cl }
+        let plain = self.at_crisis(-(re - self.re_crit) / self.re_width);
+        CdCl {
+            cd: plain.cd + self.cd_spin * sr / (1.0 + sr / self.sr_sat),
+            cl: plain.cl * (1.0 - exponential::exp(-sr / self.sr_scale)),
+        }
     }
 
     // Acceleration (m/s²) by gravity, drag and Magnus lift.

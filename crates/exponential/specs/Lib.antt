@@ -4,3 +4,4 @@ pub mod Shift
 pub mod Power
 pub mod Whole
 pub mod NotNan
+pub mod Magnitude

@@ -5,3 +5,4 @@ pub mod Order
 pub mod Rounding
 pub mod Ranges
 pub mod Against0
+pub mod Products
