@@ -40,6 +40,18 @@ impl Arc {
             flight::parabola(self.a, tau)
         }
     }
+
+    // The place alone, for a look.
+    #[tactic(auto, using(number::proofs::Steps::steps), unfolding(crate::specs::Arrival::arc_of))]
+    fn place_at(&self, tau: f64) -> DVec3
+        ensures { result ≡ (arc_of self.now tau).pos }
+    {
+        if self.air_density > 0.0 {
+            flight::hermite_place(self.a, self.b, self.h, tau)
+        } else {
+            flight::parabola_place(self.a, tau)
+        }
+    }
 }
 
 // ---- clearance
@@ -59,7 +71,7 @@ pub fn clear(course: &Course, t: &mut Tally, pos: DVec3) -> Result<f64, Refusal>
 fn clearance_at(course: &Course, tally: &mut Tally, arc: &Arc, tau: f64) -> Result<f64, Refusal>
     ensures { Finds (course_of course.now) (clearance_at arc.now tau) 0 tally.old result tally.new }
 {
-    clear(course, tally, arc.at(tau).pos)
+    clear(course, tally, arc.place_at(tau))
 }
 
 // ---- the first crossing
@@ -189,7 +201,7 @@ fn crossing_time(course: &Course, tally: &mut Tally, arc: &Arc, b: Bracket) -> R
     ensures { Finds (course_of course.now) (crossing_time arc.now b) 200 tally.old result tally.new }
 {
     let f_hi = end_value(course, tally, arc, b)?;
-    let last = arc.at(arc.h).pos;
+    let last = arc.place_at(arc.h);
     let end = tally.look(course, last.x, last.z)?;
     let guess = guess_in(arc, b, end.height);
     find_root(course, tally, arc, ending_at(b, f_hi), guess)

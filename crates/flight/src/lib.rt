@@ -63,17 +63,31 @@ fn hermite_vel(vel: DVec3, chord: DVec3, end_vel: DVec3, h: f64, u: f64) -> DVec
         + end_vel * (3.0 * u2 - 2.0 * u)
 }
 
+// Where `hermite` is, without its velocity.
+#[tactic(auto, unfolding(crate::specs::Arc::hermite_of))]
+pub fn hermite_place(a: State, b: State, h: f64, tau: f64) -> DVec3
+    ensures { result ≡ (hermite_of a b h tau).pos }
+{
+    hermite_pos(a.pos, a.vel, b.pos - a.pos, b.vel, h, tau / h)
+}
+
 // The state a time tau into a step of length h from a to b: the cubic Hermite interpolant.
 #[tactic(auto, unfolding(crate::specs::Arc::hermite_of))]
 pub fn hermite(a: State, b: State, h: f64, tau: f64) -> State
     ensures { result ≡ hermite_of a b h tau }
 {
-    let u = tau / h;
-    let chord = b.pos - a.pos;
     State {
-        pos: hermite_pos(a.pos, a.vel, chord, b.vel, h, u),
-        vel: hermite_vel(a.vel, chord, b.vel, h, u),
+        pos: hermite_place(a, b, h, tau),
+        vel: hermite_vel(a.vel, b.pos - a.pos, b.vel, h, tau / h),
     }
+}
+
+// Where `parabola` is, without its velocity.
+#[tactic(auto, using(number::proofs::Steps::steps), unfolding(crate::specs::Arc::parabola_of))]
+pub fn parabola_place(s: State, tau: f64) -> DVec3
+    ensures { result ≡ (parabola_of s tau).pos }
+{
+    s.pos + s.vel * tau + GRAVITY * 0.5 * tau * tau
 }
 
 // The state a time tau after s, under gravity alone.
@@ -82,7 +96,7 @@ pub fn parabola(s: State, tau: f64) -> State
     ensures { result ≡ parabola_of s tau }
 {
     State {
-        pos: s.pos + s.vel * tau + GRAVITY * 0.5 * tau * tau,
+        pos: parabola_place(s, tau),
         vel: s.vel + GRAVITY * tau,
     }
 }

@@ -3,4 +3,4 @@ use Rattle.arrival.proofs.clearance_at.Goals as goal
 
 pub returns : goal.returns
 unfolding clearance_at
-returns c = rw c.at.ensures at c.clear.ensures
+returns c = rw c.place_at.ensures at c.clear.ensures

@@ -11,7 +11,7 @@ pub returns-in_err-end : goal.returns-in_err-end
 unfolding crossing_time
 returns-in_err-end c =
     within (omega arith) (onward _ _ c.end_value.ensures {i = 0} c.in_ok-f_hi.was
-    (stopped _ _ (rw c.at.ensures at c.look.ensures) c.in_err-end.was _ c.from_residual-in_err-end.ensures.1))
+    (stopped _ _ (rw c.place_at-last.ensures at c.look.ensures) c.in_err-end.was _ c.from_residual-in_err-end.ensures.1))
 
 pub find_root-requires : goal.find_root-requires
 find_root-requires c = let a = few c.end_value.ensures in let b = few c.look.ensures in omega (arith, a, b)
@@ -19,5 +19,5 @@ find_root-requires c = let a = few c.end_value.ensures in let b = few c.look.ens
 pub returns : goal.returns
 unfolding crossing_time
 returns c =
-    onward _ _ c.end_value.ensures {i = 200} c.in_ok-f_hi.was (onward _ _ (rw c.at.ensures at c.look.ensures) {i = 200} c.in_ok-end.was
+    onward _ _ c.end_value.ensures {i = 200} c.in_ok-f_hi.was (onward _ _ (rw c.place_at-last.ensures at c.look.ensures) {i = 200} c.in_ok-end.was
     (rw (← c.ending_at.ensures, ← c.guess_in-guess.ensures) c.find_root.ensures))
