@@ -1,7 +1,7 @@
 // A ball on the ground: slip, rolling, following the surface, the end of a train of hops.
 #![tactic(auto)]
 
-ghost use Rattle.std.specs.Prelude.{◌≡◌, true, ◌&&◌};
+ghost use Rattle.std.specs.Prelude.{◌≡◌, true, false, ◌&&◌};
 ghost use Rattle.std.specs.Float.Ieee.{eq};
 ghost use Rattle.vector.specs.Vec.{vec, vnormalize, same_vec};
 ghost use Rattle.contact.specs.Contact.{tangent, slip_of, locked_of, saturated, tangential_gravity, relocked, onto_of, holds_at_rest, sample_holds, returned_by, spin_inertia, energy_of, hops_die_out};
@@ -41,6 +41,45 @@ pub fn unit(normal: DVec3) -> DVec3
         return normal;
     }
     normal.normalize()
+}
+
+// Whether two doubles are one, zeros of either sign told apart.
+fn same_double(a: f64, b: f64) -> bool
+    ensures { result ≡ true → a ≡ b }
+{
+    std::num::f64_to_bits_with_nan(a) == std::num::f64_to_bits_with_nan(b)
+}
+
+// A sample's normal, and the unit vector along it, which takes a root.
+#[derive(Clone, Copy)]
+pub struct Normal {
+    pub given: DVec3,
+    pub unit: DVec3,
+    pub ghost along: { unit ≡ vnormalize given },
+}
+
+impl Normal {
+    pub fn new(given: DVec3) -> Normal
+        ensures { result.given ≡ given }
+    {
+        Normal {
+            given,
+            unit: unit(given),
+        }
+    }
+
+    // That of another sample: mostly it is the same one.
+    pub fn next(self, given: DVec3) -> Normal
+        ensures { result.given ≡ given }
+    {
+        if same_double(given.x, self.given.x)
+            & same_double(given.y, self.given.y)
+            & same_double(given.z, self.given.z)
+        {
+            return self;
+        }
+        Normal::new(given)
+    }
 }
 
 // The part of v along the plane with unit normal n.
@@ -94,10 +133,10 @@ pub fn tangential_gravity(n: DVec3) -> DVec3
 
 // The spin of a ball that rolls on, with its spin about the normal kept.
 #[tactic(auto, unfolding(crate::specs::Contact::relocked))]
-fn relock(spin: DVec3, vel: DVec3, n: DVec3, prev_normal: DVec3, radius: f64) -> DVec3
-    ensures { result ≡ relocked spin vel n prev_normal radius }
+fn relock(spin: DVec3, vel: DVec3, n: DVec3, prev: Normal, radius: f64) -> DVec3
+    ensures { result ≡ relocked spin vel n prev.given radius }
 {
-    let w_n = spin.dot(prev_normal.normalize());
+    let w_n = spin.dot(prev.unit);
     n.cross(vel) / radius + n * w_n
 }
 
@@ -109,7 +148,36 @@ pub fn is_onto(y: f64, height: f64, normal: DVec3, prev_normal: DVec3) -> bool
     (normal == prev_normal) & (y == height)
 }
 
-// Puts a ball that has stepped across the ground back onto it. `rolling` is the Rust's parameter.
+// Puts a ball that has stepped across the ground back onto it, where it is not there already. n is the sample's normal, prev that of the step.
+#[tactic(auto, using(number::proofs::Steps::steps), unfolding(crate::specs::Contact::onto_of))]
+pub fn put_onto(
+    state: BallState,
+    at: GroundSample,
+    n: Normal,
+    prev: Normal,
+    rolling: bool,
+    radius: f64,
+) -> BallState
+    requires { (n.given ≡ at.normal) × ((same_vec at.normal prev.given && eq state.pos.y at.height) ≡ false) }
+    ensures { result ≡ onto_of state at prev.given rolling radius }
+{
+    let vel = along(state.vel, n.unit);
+    BallState {
+        pos: DVec3 {
+            y: at.height,
+            ..state.pos
+        },
+        vel,
+        spin: if rolling {
+            relock(state.spin, vel, n.unit, prev, radius)
+        } else {
+            state.spin
+        },
+        ..state
+    }
+}
+
+// The same for any ball. `rolling` is the Rust's parameter.
 #[tactic(auto, using(number::proofs::Steps::steps), unfolding(crate::specs::Contact::onto_of))]
 pub fn onto_surface(
     state: BallState,
@@ -123,21 +191,8 @@ pub fn onto_surface(
     if is_onto(state.pos.y, at.height, at.normal, prev_normal) {
         return state;
     }
-    let n = at.normal.normalize();
-    let vel = along(state.vel, n);
-    BallState {
-        pos: DVec3 {
-            y: at.height,
-            ..state.pos
-        },
-        vel,
-        spin: if rolling {
-            relock(state.spin, vel, n, prev_normal, radius)
-        } else {
-            state.spin
-        },
-        ..state
-    }
+    let prev = Normal::new(prev_normal);
+    put_onto(state, at, prev.next(at.normal), prev, rolling, radius)
 }
 
 // Whether rolling resistance holds a ball at rest on ground with unit normal n.

@@ -10,6 +10,7 @@ ghost use Rattle.tally.specs.Inner.{Bounded};
 ghost use Rattle.roll.specs.Roll.{step_on, point_due, held_of, put_down};
 ghost use Rattle.roll.specs.Inner.{RollPasses};
 
+use contact::Normal;
 use course::Course;
 use refusal::Refusal;
 use rolling::Stepped;
@@ -37,14 +38,16 @@ pub struct Roll {
 
 // A contact step of at most dt, and not past t_end.
 #[tactic(auto, unfolding(crate::specs::Roll::step_on))]
-fn step_on(c: &Conditions, g: &Roll) -> Stepped
+fn step_on(c: &Conditions, g: &Roll, on: Normal) -> Stepped
+    requires { on.given ≡ g.now.at.normal }
     ensures { result ≡ step_on c.now g.now }
 {
     let physics = &c.physics;
     let h = number::min(physics.dt, c.t_end - g.state.time);
-    rolling::contact_step(
+    rolling::step_along(
         g.state,
         g.at,
+        on,
         c.ball,
         h,
         physics.stop_speed,
@@ -75,19 +78,21 @@ fn held(s: &Stepped, under: &GroundSample) -> bool
     s.phase == Phase::Roll && rests(&s.state, under)
 }
 
-// The ball after its step, put back onto the ground under it. Mostly it is there already, and nothing is handed over.
+// The ball after its step, put back onto the ground under it. On level ground it is there already, and nothing is handed over.
 #[tactic(auto, unfolding(crate::specs::Roll::put_down, contact::specs::Contact::onto_of))]
-fn put_down(c: &Conditions, g: &Roll, s: &Stepped, under: &GroundSample) -> BallState
+fn put_down(c: &Conditions, g: &Roll, on: Normal, s: &Stepped, under: &GroundSample) -> BallState
+    requires { on.given ≡ g.now.at.normal }
     ensures { result ≡ put_down c.now g.now s.now.state s.now.rolling under.now }
 {
-    let normal = g.at.normal;
-    if contact::is_onto(s.state.pos.y, under.height, under.normal, normal) {
+    if contact::is_onto(s.state.pos.y, under.height, under.normal, on.given) {
         return s.state;
     }
-    contact::onto_surface(s.state, *under, normal, s.rolling, c.ball.radius_m())
+    let n = on.next(under.normal);
+    contact::put_onto(s.state, *under, n, on, s.rolling, c.ball.radius_m())
 }
 
-// One pass. `Bounded` speaks of the conditions and the tally together, so it is asked, and no type has it.
+// One pass. The unit vector along the ground's normal is made once, for the step and after it. `Bounded` speaks of the conditions and the tally
+// together, so it is asked, and no type has it.
 pub fn ground_step(
     course: &Course,
     points: &mut [f64],
@@ -99,12 +104,13 @@ pub fn ground_step(
     requires bounded { Bounded c.now t.old }
     ensures { RollPasses (course_of course.now) c.now g.now t.old points.old result t.new points.new }
 {
-    let s = step_on(c, g);
+    let on = Normal::new(g.at.normal);
+    let s = step_on(c, g, on);
     t.count_step(s.evaluations);
     let due = point_due(g.state.time, g.next_sample, g.last, s.phase);
     t.push_due(due, course, points, &g.state, s.phase)?;
     let under = t.look(course, s.state.pos.x, s.state.pos.z)?;
-    let b = t.test(put_down(c, g, &s, &under))?;
+    let b = t.test(put_down(c, g, on, &s, &under))?;
     if held(&s, &under) {
         t.push_point(course, points, &b, Phase::Roll)?;
         return Ok(ControlFlow::Break(Ending {

@@ -10,7 +10,7 @@ ghost use Rattle.slide.specs.Slide.{slip_eps};
 ghost use Rattle.rolling.specs.ContactStep.{pivot_accel, patch_of, slid_to, slide_step, roll_patch_of, decel_of, heading_of, stops_of, stop_time, rest_pos, rest_spin, rest_of, resistance_of, roll_rate, roll_by, rolled_spin, roll_on, roll_step, contact_step_of};
 
 use aero::{BallModel, G};
-use contact::Locked;
+use contact::{Locked, Normal};
 use rk4::Motion;
 use slide::{Patch, SLIP_EPS, Slid, Slip};
 use state::{BallState, Phase};
@@ -188,7 +188,8 @@ impl RollingOn {
         }
     }
 
-    // The resistance at the velocity `vel`, of length `v`; `d` is the deceleration at `v`.
+    // The resistance at the velocity `vel`, of length `v`; `d` is the deceleration at `v`. In line, as four stages wait for it.
+    #[inline(always)]
     #[tactic(auto, using(number::proofs::Steps::steps), unfolding(crate::specs::ContactStep::resistance_of, crate::specs::ContactStep::roll_patch_of))]
     fn resistance(&self, vel: DVec3, v: f64, d: f64) -> DVec3
         requires { (v ≡ vlength vel) × (d ≡ decel_of (roll_patch_of self.now.patch self.now.surface) v) }
@@ -306,18 +307,20 @@ fn slip_root(s: f64) -> f64
     root::root(s)
 }
 
-// One ground step of at most `dt` on the ground sample `at`; a stop may take longer.
-pub fn contact_step(
+// One ground step of at most `dt` on the ground sample `at`, whose normal is `on`; a stop may take longer.
+pub fn step_along(
     state: BallState,
     at: GroundSample,
+    on: Normal,
     ball: BallModel,
     dt: f64,
     stop_speed: f64,
     roll_threshold: f64,
 ) -> Stepped
+    requires { on.given ≡ at.normal }
     ensures { result ≡ contact_step_of state at ball dt stop_speed roll_threshold }
 {
-    let n = contact::unit(at.normal);
+    let n = on.unit;
     let radius = ball.radius_m();
     let k = ball.inertia_factor;
     let vel = state.vel - n * state.vel.dot(n);
@@ -335,4 +338,19 @@ pub fn contact_step(
         surface: at.surface,
     };
     on.roll_step(state, locked, w, dt, stop_speed)
+}
+
+// The same for any sample.
+pub fn contact_step(
+    state: BallState,
+    at: GroundSample,
+    ball: BallModel,
+    dt: f64,
+    stop_speed: f64,
+    roll_threshold: f64,
+) -> Stepped
+    ensures { result ≡ contact_step_of state at ball dt stop_speed roll_threshold }
+{
+    let on = Normal::new(at.normal);
+    step_along(state, at, on, ball, dt, stop_speed, roll_threshold)
 }

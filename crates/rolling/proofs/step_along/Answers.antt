@@ -1,8 +1,9 @@
-use mathlib.Core.Path.{◌∙◌}
+use mathlib.Core.Path.{ap, ◌∙◌}
 use lib.Ieee.{of_bits, round}
+use Rattle.vector.specs.Vec.{vnormalize}
 use Rattle.rolling.specs.ContactStep.{patch_of, contact_step_of}
 use Rattle.rolling.proofs.Slow
-use Rattle.rolling.proofs.contact_step.Goals as goal
+use Rattle.rolling.proofs.step_along.Goals as goal
 
 pub invariant_of-slip : goal.invariant_of-slip
 unfolding of_bits round
@@ -17,7 +18,7 @@ unfolding contact_step_of patch_of of_bits round
 returns-then-len c =
     let slides = Slow.same _ _ _ c.length_squared.ensures c.slip_root-len.ensures.0 ∙ c.if-len.true in
     simp (
-      ← c.unit-n.ensures,
+      ← c.args.on.along ∙ ap vnormalize c.requires,
       ← c.radius_m-radius.ensures,
       ← c.dot.ensures,
       ← c.mul.ensures,
@@ -34,7 +35,7 @@ unfolding contact_step_of of_bits round
 returns c =
     let rolls = Slow.same _ _ _ c.length_squared.ensures c.slip_root-len.ensures.0 ∙ c.if-len.false in
     simp (
-      ← c.unit-n.ensures,
+      ← c.args.on.along ∙ ap vnormalize c.requires,
       ← c.radius_m-radius.ensures,
       ← c.dot.ensures,
       ← c.mul.ensures,
