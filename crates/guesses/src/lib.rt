@@ -17,7 +17,7 @@ pub extern "C" fn guess_root(x: f64) -> u64
 }
 
 // Whether a look at the spot is in the column and the row that the index guesses, 1, or tries each patch, 0; 100 for a sheet that is refused.
-// Of sheets with few patches, which have no index, it tells nothing.
+// Of sheets with few patches, which have boxes instead of columns and rows, it tells nothing.
 #[unsafe(no_mangle)]
 #[tactic(auto, unfolding(crate::specs::Guesses::guess_look_of))]
 pub extern "C" fn guess_look(sheet: &[u8], x: f64, z: f64) -> u32

@@ -1,3 +1,4 @@
 pub mod Reach
 pub mod Marks
 pub mod Cuts
+pub mod Boxes

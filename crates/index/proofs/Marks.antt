@@ -255,32 +255,30 @@ module _ (s ix : List ℕ) (x z : Float) (t : Indexed s ix) (c : ℕ) (l : c < 1
       row s ix (covers s x z) 1 c (17 + c) (128 + 8 * c) (lit< tt) l (omega arith) (omega arith) t
       (λ i h. reach_z s x z i h (cut ix (17 + c)) (cut ix (17 + c + 1)) (rw (← e, ← f, ← v) g))
 
--- a scan from one word to the next: what is left of it from word w on
+-- a scan in parts: what is left of it from `from` on
 module _ (p : ℕ → Bool) (count n : ℕ) where
-  abbrev start : ℕ → ℕ
-  start w = count + min (64 * w) n
-
   abbrev pub Scan : ℕ → Type 0
-  Scan w = first p (count + n - start w) (start w) ≡ first p n count
+  Scan from = first p (count + n - from) from ≡ first p n count
 
-  pub scan_start : Scan 0
-  scan_start = let s : start 0 ≡ count = omega arith in let a : count + n - count ≡ n = omega arith in rw (s, a)
+  pub scan_start : (from : ℕ) → from ≡ count → Scan from
+  scan_start from e = let a : count + n - count ≡ n = omega arith in rw (e, a)
 
-  pub scan_end : (w : ℕ) → n ≤ 64 * w → Scan w → count + n ≡ first p n count
+  pub scan_end : (from : ℕ) → from ≡ count + n → Scan from → count + n ≡ first p n count
   unfolding first
-  scan_end w l h = let s : start w ≡ count + n = omega arith in rw (s, sub_self) at h
+  scan_end from e h = rw (e, sub_self) at h
 
-  module _ (w : ℕ) {from to i : ℕ} (f : from ≡ start w) (t : to ≡ start (w + 1)) (e : i ≡ first p (to - from) from) (h : Scan w) where
-    parts : count + n - from ≡ to - from + (count + n - to)
+  -- the part from a to before b
+  module _ (a b : ℕ) {from end i : ℕ} (f : from ≡ a) (t : end ≡ b) (l : a ≤ b) (m : b ≤ count + n) (e : i ≡ first p (end - from) from) (h : Scan a) where
+    parts : count + n - from ≡ end - from + (count + n - end)
     parts = omega arith
 
-    left : first p (to - from + (count + n - to)) from ≡ first p n count
+    left : first p (end - from + (count + n - end)) from ≡ first p n count
     left = rw (← parts, f) h
 
-    pub in_word : (from ≤ i) × (i < from + (to - from)) → ((count ≤ i) × (i < count + n)) × (i ≡ first p n count)
-    in_word l = (omega arith, e ∙ sym (first_head p (to - from) (count + n - to) from (rw (← e) l.1)) ∙ left)
+    pub in_part : count ≤ a → (from ≤ i) × (i < from + (end - from)) → ((count ≤ i) × (i < count + n)) × (i ≡ first p n count)
+    in_part k g = (omega arith, e ∙ sym (first_head p (end - from) (count + n - end) from (rw (← e) g.1)) ∙ left)
 
-    pub past_word : i ≡ from + (to - from) → Scan (w + 1)
-    past_word l =
-        let q : from + (to - from) ≡ to = omega arith in
-        rw (← t) (sym (first_tail p (to - from) (count + n - to) from (rw (← e) (omega arith)) ∙ ap (first p (count + n - to)) q) ∙ left)
+    pub past_part : i ≡ from + (end - from) → Scan b
+    past_part g =
+        let q : from + (end - from) ≡ end = omega arith in
+        rw (← t) (sym (first_tail p (end - from) (count + n - end) from (rw (← e) (omega arith)) ∙ ap (first p (count + n - end)) q) ∙ left)

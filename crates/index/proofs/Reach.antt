@@ -12,7 +12,7 @@ use Rattle.sheet.specs.Sheet.{covers, real}
 use Rattle.sheet.specs.Accepted.{and_l, and_r}
 use Rattle.index.specs.Index.{reaches}
 
-through : (x y z : Float) → le x y ≡ true → le y z ≡ true → le x z ≡ true
+pub through : (x y z : Float) → le x y ≡ true → le y z ≡ true → le x z ≡ true
 through x y z p q = is_true (le x z) (le_through x y z (subst T (sym p) tt) (subst T (sym q) tt))
 
 -- along one axis: lo ≤ x ≤ hi, and the patch's edges e ≤ x ≤ f

@@ -4,12 +4,17 @@
 -- There are 16 columns along x and 16 rows along z, each between two of 17 cuts. The index is `index_words` words:
 --   128 d + 8 c + w   marks of column c (d = 0) or row c (d = 1): bit k is that of patch 64 w + k
 --   256 + 17 d + c    cut c along that axis, as the bits of a double
-use Rattle.std.specs.Prelude.{ℕ, zero, suc, ◌+◌, ◌-◌, ◌*◌, ◌/◌, ◌%◌, ◌^◌, ◌≤◌, ◌<◌, min, ◌≡◌, List, Bool, true, ◌&&◌, cond, leb, length, get_or, set, Float, Option, None, Some}
-use Rattle.std.specs.Float.Ieee.{le, eq, neg, of_bits, to_bits}
+-- Where there are few patches the index has no marks and no cuts, and a box for each block of eight patches, the smallest rectangle around them:
+--   4 b, 4 b + 1      where the box of block b begins and ends along x, as the bits of a double
+--   4 b + 2, 4 b + 3  the same along z
+use Rattle.std.specs.Prelude.{ℕ, zero, suc, ◌+◌, ◌-◌, ◌*◌, ◌/◌, ◌%◌, ◌^◌, ◌≤◌, ◌<◌, min, ◌≡◌, ◌≢◌}
+use Rattle.std.specs.Prelude.{List, Bool, true, not, T, ◌&&◌, cond, leb, length, get_or, set, Float, Option, None, Some}
+use Rattle.std.specs.Float.Ieee.{le, eq, neg, of_bits, to_bits, nan_bits}
 use Rattle.std.specs.Float.{binary64}
 use Rattle.number.specs.Ops.{◌⊕◌, ◌⊖◌, ◌⊘◌, dec}
 use Rattle.number.specs.Number.{min_of, max_of, within_of}
 use Rattle.sheet.specs.Sheet.{surfaces, patches, real, answer_of, first, covers}
+use Rattle.index.specs.declared.Edges.{Edges}
 use Rattle.index.specs.declared.Axis.{Axis}
 use Rattle.index.specs.declared.Axis.TheVariants.{X, Z}
 
@@ -22,7 +27,7 @@ axis_number Z = 1
 abbrev pub index_words : ℕ
 index_words = 290
 
--- as many patches, and fewer, have no index
+-- as many patches, and fewer, have boxes and no marks
 abbrev pub few : ℕ
 few = 48
 
@@ -121,8 +126,52 @@ Indexed s ix = (k : ℕ) → k < 256 → Entry s ix k (get_or ix k 0)
 unfoldable pub Row : List ℕ → (ℕ → Bool) → List ℕ → ℕ → Type 0
 Row s p ix k = (w : ℕ) → w < 8 → Marks p (get_or ix (k + w) 0) (low s (w + 1) - low s w) (low s w)
 
--- What a look asks: an accepted sheet, and its index. Where there are few patches the index is not used.
+-- ---- the boxes
+
+-- an edge of a box
+abbrev pub edge : List ℕ → ℕ → Float
+edge ix k = of_bits binary64 (get_or ix k 0)
+
+-- the spot is in the box of block b
+unfoldable pub in_box : List ℕ → ℕ → Float → Float → Bool
+in_box ix b x z = within_of (edge ix (4 * b)) (edge ix (4 * b + 1)) x && within_of (edge ix (4 * b + 2)) (edge ix (4 * b + 3)) z
+
+-- the patch that is record i lies in the box of block b
+unfoldable pub encloses : List ℕ → List ℕ → ℕ → ℕ → Bool
+encloses s ix b i =
+    le (edge ix (4 * b)) (real s i 0) && le (real s i 1) (edge ix (4 * b + 1))
+    && le (edge ix (4 * b + 2)) (real s i 2) && le (real s i 3) (edge ix (4 * b + 3))
+
+-- the records of block b: from `block`, to before `block` of the next
+abbrev pub block : List ℕ → ℕ → ℕ
+block s b = surfaces s + min (8 * b) (patches s)
+
+-- each spot in a patch from record `from` to before `end` is in the box of block b
+unfoldable pub Around : List ℕ → List ℕ → ℕ → ℕ → ℕ → Type 0
+Around s ix b from end = (i : ℕ) → from ≤ i → i < end → (x z : Float) → covers s x z i ≡ true → in_box ix b x z ≡ true
+
+-- the edges of the box of block b are no NaN patterns
+pub record Numbers (ix : List ℕ) (b : ℕ) : Type 0 where
+  pub n0 : T (not (nan_bits binary64 (get_or ix (4 * b) 0)))
+  pub n1 : T (not (nan_bits binary64 (get_or ix (4 * b + 1) 0)))
+  pub n2 : T (not (nan_bits binary64 (get_or ix (4 * b + 2) 0)))
+  pub n3 : T (not (nan_bits binary64 (get_or ix (4 * b + 3) 0)))
+
+unfoldable pub Boxed : List ℕ → List ℕ → Type 0
+Boxed s ix = (b : ℕ) → b < 6 → Around s ix b (block s b) (block s (b + 1)) × Numbers ix b
+
+-- the index with the box of block b written
+unfoldable pub with_box : List ℕ → ℕ → Edges → List ℕ
+with_box ix b e =
+    set (set (set (set ix (4 * b) (bits_of e.x_lo)) (4 * b + 1) (bits_of e.x_hi)) (4 * b + 2) (bits_of e.z_lo)) (4 * b + 3) (bits_of e.z_hi)
+
+-- the same words, but for the box of block b
+abbrev pub SameElsewhere : List ℕ → List ℕ → ℕ → Type 0
+SameElsewhere ix iy b = (k : ℕ) → k / 4 ≢ b → get_or ix k 0 ≡ get_or iy k 0
+
+-- What a look asks: an accepted sheet, and its index: boxes where there are few patches, and otherwise marks.
 pub record Ready (s : List ℕ) (ix : List ℕ) : Type 0 where
   pub ok : answer_of s ≡ 0
   pub long : length ix ≡ index_words
+  pub boxes : patches s ≤ few → Boxed s ix
   pub marks : few < patches s → Indexed s ix

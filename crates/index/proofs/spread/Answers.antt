@@ -13,7 +13,7 @@ loop-i-preserved c = (
 
 pub loop-k-preserved : goal.loop-k-preserved
 loop-k-preserved c =
-    (simp length-set c.loop-k.invariant.0, steps_next _ _ _ _ _ _ _ (omega arith) (omega arith) c.bits_of-in-loop-k.ensures ∙ c.loop-k.invariant.1)
+    (simp length-set c.loop-k.invariant.0, steps_next _ _ _ _ _ _ _ (omega arith) (omega arith) c.bits_of-in-loop-k.ensures.bits ∙ c.loop-k.invariant.1)
 
 pub returns : goal.returns
 unfolding of_bits round
@@ -21,5 +21,5 @@ returns c =
     let lo = sym (least_last _ _ _ _ _ (omega arith)) ∙ c.loop-i.invariant.0 in
     let hi = sym (greatest_last _ _ _ _ _ (omega arith)) ∙ c.loop-i.invariant.1 in
     rw (← c.number-d.ensures.number)
-    (spread_is _ _ _ _ _ _ refl refl lo hi c.bits_of.ensures c.bits_of-2.ensures
+    (spread_is _ _ _ _ _ _ refl refl lo hi c.bits_of.ensures.bits c.bits_of-2.ensures.bits
     (sym (steps_last _ (16 - c.loop-k.k) _ _ _ (omega arith)) ∙ c.loop-k.invariant.1))

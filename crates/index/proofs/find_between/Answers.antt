@@ -1,6 +1,6 @@
 use Rattle.std.proofs.Common.{arith, sym, ◌∙◌}
 use Rattle.sheet.specs.Scan.{first_next, first_stop, first_end}
-use Rattle.index.proofs.find_patch.Goals as goal
+use Rattle.index.proofs.find_between.Goals as goal
 
 pub returns-then-spot_in : goal.returns-then-spot_in
 returns-then-spot_in c = (omega arith, first_stop _ _ _ (omega arith) (sym c.spot_in.ensures ∙ c.if-spot_in.true) ∙ c.loop-i.invariant)
