@@ -55,6 +55,8 @@ pub fn roll_of(s: BallState, at: GroundSample) -> Roll
 
 // Slides and rolls, from what the loop carries to rest or t_end; or it breaks off where a step is due that step_limit does not allow, and gives
 // what the loop carries. As in a hop, the time and the tally say when the passes end, and one loop for both would be longer than the two.
+// In a function of its own, its loop and that of the hops have the registers to themselves.
+#[inline(never)]
 pub fn ground(
     course: &Course,
     points: &mut [f64],
