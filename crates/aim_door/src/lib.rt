@@ -12,6 +12,7 @@ use refusal::Refusal;
 use state::BallState;
 
 // 12 for under 240 or over 34,048 bytes; the other answers are aim's.
+#[tactic(auto, using(crate::proofs::Sized::too_short, crate::proofs::Sized::too_long))]
 fn aim_input(
     input: &[u8],
     target: &Target,

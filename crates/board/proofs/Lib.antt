@@ -3,3 +3,4 @@ pub mod Examples
 pub mod Alike
 pub mod Listing
 pub mod Tests
+pub mod Shift

@@ -1,7 +1,7 @@
 // The board: the balls of a league ranked by their distance from the pin, those at rest first.
 #![tactic(auto)]
 
-ghost use Rattle.std.specs.Prelude.{◌≡◌, ◌<◌, length, position};
+ghost use Rattle.std.specs.Prelude.{◌≡◌, ◌<◌, ◌-◌, ◌++◌, length, take, drop, position};
 ghost use Rattle.refusal.specs.Refusal.{answer_by};
 ghost use Rattle.board.specs.Rules.{key_of, moving, is_before, holds, one, used, answer_of};
 ghost use Rattle.board.specs.Board.{listing, answered, new_by, new_of, empty_board, with_entry, enter_of, placed_by, place_of};
@@ -53,6 +53,22 @@ fn used(listed: &[Entry], bay: u32) -> usize
     ensures { result ≡ used bay listed.now }
 {
     listed.iter().filter(|e| e.bay == bay).count()
+}
+
+// The last entry in front, and each other one moved on by one place. One by one: the library's `rotate_right` needs C's `memmove`, which no caller of the
+// exported functions had to bring.
+fn last_to_front(entries: &mut [Entry])
+    requires { 0 < length entries.old }
+    ensures { entries.new ≡ drop (length entries.old - 1) entries.old ++ take (length entries.old - 1) entries.old }
+{
+    let last = entries.len() - 1;
+    let mut next = entries[last];
+    for i in 0..last {
+        let moved = entries[i];
+        entries[i] = next;
+        next = moved;
+    }
+    entries[last] = next;
 }
 
 impl Board {
@@ -155,7 +171,7 @@ impl Board {
         let count = self.count;
         let at = self.first_after(&e).unwrap_or(count);
         self.entries[count] = e;
-        self.entries[at..count + 1].rotate_right(1);
+        last_to_front(&mut self.entries[at..count + 1]);
         self.count = count + 1;
     }
 

@@ -1,5 +1,6 @@
 pub mod Tests
 pub mod Passed
 pub mod Settle
+pub mod Told
 pub mod Inner
 pub mod Step

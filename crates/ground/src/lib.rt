@@ -5,6 +5,7 @@ ghost use Rattle.std.specs.Prelude.{◌≡◌, length};
 ghost use Rattle.refusal.specs.Refusal.{answer_by, number_of};
 ghost use Rattle.ground.specs.Tests.{refusal_of};
 ghost use Rattle.ground.specs.Settle.{result_of, told_by, refusal as refusal_r, conditions_of, settle_of};
+ghost use Rattle.ground.specs.Told.{record_of};
 ghost use Rattle.ground.specs.Inner.{settled_by, after_sheet, ball_and_landing};
 ghost use Rattle.ground.specs.Step.{stepped_by, step_made, step_of, struck_by, impact_made, impact_answer};
 
@@ -58,6 +59,56 @@ pub fn refused(refusal: Refusal) -> Settled
         evaluations: 0,
         rest: BallState::ZERO,
         rect: Rect::new(),
+    }
+}
+
+// A settle's result as the line shows it: a number for its answer, whichever it is, and beside it a termination or none.
+#[derive(Clone, Copy)]
+pub struct Told {
+    pub answer: u32,
+    pub termination: Option<Termination>,
+    pub contacts: usize,
+    pub points: usize,
+    pub steps: u64,
+    pub evaluations: u64,
+    pub rest: BallState,
+    pub rect: Rect,
+}
+
+impl Told {
+    // What a refusal hands back, with this number: 0 too, of a call that answers 0 and settles nothing.
+    #[tactic(auto, using(number::proofs::Steps::steps))]
+    pub fn refused(answer: u32) -> Told
+        ensures { record_of result ≡ refusal_r answer }
+    {
+        Told {
+            answer,
+            termination: None,
+            contacts: 0,
+            points: 0,
+            steps: 0,
+            evaluations: 0,
+            rest: BallState::ZERO,
+            rect: Rect::new(),
+        }
+    }
+}
+
+impl Settled {
+    // With its answer as a number.
+    pub fn told(&self) -> Told
+        ensures { record_of result ≡ told_by self.now }
+    {
+        Told {
+            answer: refusal::answer(&self.outcome),
+            termination: self.outcome.ok(),
+            contacts: self.contacts,
+            points: self.points,
+            steps: self.steps,
+            evaluations: self.evaluations,
+            rest: self.rest,
+            rect: self.rect,
+        }
     }
 }
 
@@ -209,7 +260,8 @@ fn impact_made(sheet: Sheet, ball: &BallModel, state: &BallState) -> Result<Ball
     let course = Course::scanned(sheet);
     let mut tally = Tally::new(state);
     let at = tally.look(&course, state.pos.x, state.pos.z)?;
-    tally.test(impact::impact(*state, at, *ball))
+    let after = tally.test(impact::impact(*state, at, *ball))?;
+    Ok(after)
 }
 
 // One impact of a ball on the course of the sheet.

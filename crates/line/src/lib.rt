@@ -3,10 +3,10 @@
 
 ghost use Rattle.std.specs.Prelude.{◌≡◌, ◌+◌, ◌≤◌, ◌++◌, length};
 ghost use Rattle.text.specs.Text.{Puts, decimal_of};
-ghost use Rattle.ground.specs.Settle.{told_by};
+ghost use Rattle.ground.specs.Told.{record_of};
 ghost use Rattle.line.specs.Line.{counts_of, shown_of, wrote, written_line};
 
-use ground::Settled;
+use ground::Told;
 
 // Writes the word, then n in decimal.
 fn put_count(out: &mut [u8], at: usize, word: &[u8], n: u64) -> usize
@@ -27,25 +27,24 @@ fn put_counts(out: &mut [u8], at: usize, contacts: u64, points: u64, steps: u64)
 }
 
 // Writes the whole line of a settle's result.
-fn put_settled(out: &mut [u8], s: &Settled) -> usize
+fn put_told(out: &mut [u8], s: &Told) -> usize
     requires { 128 ≤ length out.old }
-    ensures { Puts 128 out.old 0 (shown_of (told_by s.now)) result out.new }
+    ensures { Puts 128 out.old 0 (shown_of (record_of s.now)) result out.new }
 {
-    let answer = refusal::answer(&s.outcome);
-    let a = put_count(out, 0, b"answer ", answer as u64);
-    // By their numbers, as 01 has them: a match would list the twelve refusals of calls that make no run.
-    if (1 <= answer) & (answer <= 12) {
+    let a = put_count(out, 0, b"answer ", s.answer as u64);
+    // 1 to 12, as 01 has them: calls that make no run.
+    if (1 <= s.answer) & (s.answer <= 12) {
         return text::put(out, a, b"\n");
     }
     let b = text::put(out, a, b" ");
-    let c = text::put_termination(out, b, s.outcome.ok());
+    let c = text::put_termination(out, b, s.termination);
     let d = put_counts(out, c, s.contacts as u64, s.points as u64, s.steps);
     text::put(out, d, b"\n")
 }
 
 // The same into an array; the count is the line's length.
-pub fn write_line(s: &Settled, out: &mut [u8; 128]) -> usize
-    ensures { wrote result out.new ≡ written_line (shown_of (told_by s.now)) out.old }
+pub fn write_line(s: &Told, out: &mut [u8; 128]) -> usize
+    ensures { wrote result out.new ≡ written_line (shown_of (record_of s.now)) out.old }
 {
-    put_settled(out, s)
+    put_told(out, s)
 }

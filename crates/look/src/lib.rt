@@ -68,6 +68,17 @@ fn widened(sides: Option<Sides>, x: f64, z: f64) -> Sides
     }
 }
 
+// Whether there was a look.
+#[tactic(auto, unfolding(crate::specs::Rect::no_rect))]
+fn any(sides: Option<Sides>) -> bool
+    ensures { result ≡ (rect_of sides).seen }
+{
+    match sides {
+        Some(_) => true,
+        None => false,
+    }
+}
+
 // The four numbers: with no look they are +0.
 fn numbers(sides: Option<Sides>) -> [f64; 4]
     ensures { result ≡ sides_of (rect_of sides) }
@@ -92,6 +103,13 @@ impl Rect {
         ensures { self.new ≡ widen self.old x z }
     {
         self.0 = Some(widened(self.0, x, z));
+    }
+
+    // Whether a spot was looked at.
+    pub fn seen(&self) -> bool
+        ensures { result ≡ self.now.seen }
+    {
+        any(self.0)
     }
 
     // The least and greatest x, then the least and greatest z.

@@ -12,7 +12,7 @@ fn write_answer(input: &[u8], out: &mut [u8; 128]) -> usize
     let mut contacts = [0.0; 64 * tally::CONTACT_WIDTH];
     let mut points = [0.0; 640 * tally::POINT_WIDTH];
     let s = input::settle_input(input, false, &mut contacts, &mut points);
-    line::write_line(&s, out)
+    line::write_line(&s.told(), out)
 }
 
 fn main() {

@@ -8,4 +8,4 @@ unfolding written_line
 written l m r x = rw (x.adds.same, x.adds.next, zero-add)
 
 pub returns : goal.returns
-returns c = written _ _ _ c.put_settled.ensures
+returns c = written _ _ _ c.put_told.ensures

@@ -21,4 +21,4 @@ written : (l : List ℕ) {s s' : Settled} {w : Wrote} → w ≡ written_line (sh
 written l e h = rw (← h) e
 
 pub returns : goal.returns
-returns c = written _ c.write_line.ensures (program _ c.settle_input-s.ensures)
+returns c = written _ c.write_line.ensures (c.told.ensures ∙ program _ c.settle_input-s.ensures)

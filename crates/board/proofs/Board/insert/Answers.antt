@@ -11,4 +11,4 @@ returns c =
     let at = c.unwrap_or-at.ensures ∙ ap (λ (r : Option ℕ). unwrap_or r b.count) c.first_after.ensures ∙ place_is p (listing b) b.count (sym c.requires.0) in
     let size : length b.entries ≡ 256 = search in
     let room : b.count < length b.entries = omega arith in
-    one_more b c.args.e c.requires.0 (placed p c.args.e b.entries b.count room at c.rotate_right.ensures.after)
+    one_more b c.args.e c.requires.0 (placed p c.args.e b.entries b.count room at c.last_to_front.ensures)
