@@ -1,4 +1,4 @@
-use Rattle.std.proofs.Common.{arith, ◌≡◌, ℕ, Bool, true, false, ◌&&◌, List, [], ◌∷◌, ◌++◌, leb}
+use Rattle.std.proofs.Common.{arith, ◌≡◌, ℕ, true, false, ◌&&◌, List, [], ◌∷◌, ◌++◌, leb}
 use Rattle.text.specs.Text.{Adds, Puts, decimal_of, word_of}
 use Rattle.text.specs.Laws.{wide, before, after, both}
 use Rattle.ground.specs.Settle.{Settled}
