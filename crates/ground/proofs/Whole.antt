@@ -1,6 +1,6 @@
 -- Lemmas: from the tests and the run to what the caller sees.
-use Rattle.std.proofs.Common.{ℕ, ◌≡◌, ◌≤◌, List, [], length, arith, ap, ◌∙◌}
-use Rattle.std.specs.Prelude.{Float, Result}
+use Rattle.std.proofs.Common.{ℕ, ◌≡◌, ◌≤◌, List, [], length, arith, refl, ap, ◌∙◌}
+use Rattle.std.specs.Prelude.{Float, Result, Ok, Err}
 use Rattle.state.specs.declared.BallState.{BallState}
 use Rattle.aero.specs.declared.BallModel.{BallModel}
 use Rattle.look.specs.Tree.{did, Did}
@@ -8,8 +8,9 @@ use Rattle.course.specs.Sheet.{course_of}
 use Rattle.records.specs.Records.{Clean, recs, shown, zeroed}
 use Rattle.records.proofs.Laws.{shows, clean_zeroed, zeroed_length, recs-length}
 use Rattle.refusal.specs.declared.Refusal.{Refusal}
-use Rattle.tally.specs.Language.{Ran, ran, Outcome, point_width, contact_width}
-use Rattle.tally.specs.Inner.{Place, place, first_tally, log_at, Grown, Runs, outcome_by}
+use Rattle.tally.specs.Language.{M, Ran, ran, Outcome, ◌>>=◌, pure, point_width, contact_width}
+use Rattle.tally.specs.Inner.{Place, place, first_tally, log_at, Grown, Runs, Reached, outcome_by}
+use Rattle.tally.proofs.Reached.{ended, passes, fails}
 use Rattle.tally.specs.declared.Conditions.{Conditions}
 use Rattle.tally.specs.declared.Tally.{Tally}
 use Rattle.shot.specs.declared.Shot.{Shot}
@@ -17,7 +18,7 @@ use Rattle.roll.specs.declared.Ending.{Ending}
 use Rattle.train.specs.Inner.{TrainRuns}
 use Rattle.ground.specs.Tests.{refusal_of}
 use Rattle.ground.specs.Settle.{result_of, report_of, conditions_of, run_of, settle_of}
-use Rattle.ground.specs.Step.{StepOut, step_by, step_run, step_made, impact_by, impact_run, impact_made}
+use Rattle.ground.specs.Step.{StepOut, step_by, step_run, step_made, struck_by, impact_by, impact_run, impact_made}
 use Rattle.ground.specs.Inner.{settled_by}
 use Rattle.ground.specs.Passed.{settle_limit}
 
@@ -31,6 +32,13 @@ pub impact_gives : (s : List ℕ) (ball : BallModel) (state : BallState) {x : Ou
     → Runs (course_of s) (impact_run ball state) n (place (first_tally state) [] []) x b → impact_by state x ≡ impact_made s ball state
 unfolding impact_made recs
 impact_gives s ball state r = ap (λ (d : Did (Ran BallState)). impact_by state d.value.outcome) r.same
+
+-- the last test of an impact
+pub impact_ends : (s : List ℕ) (ball : BallModel) (state : BallState) (w : M BallState) (x : Result BallState Refusal) {n j : ℕ} {b b' : Place}
+    → Reached (course_of s) (impact_run ball state) (place (first_tally state) [] []) n (w >>= λ out. pure out) b → Runs (course_of s) w j b (outcome_by x) b'
+    → struck_by state x ≡ impact_made s ball state
+impact_ends s ball state w (Ok v) r h = impact_gives s ball state (ended (passes _ _ r h refl))
+impact_ends s ball state w (Err e) r h = impact_gives s ball state (ended (fails _ _ r h refl))
 
 -- a list that was zeroed, and then grew, is the records and +0 after them
 seen : (w n : ℕ) (l m : List Float) → Grown w 0 (zeroed l 0) n m → Clean w 0 (zeroed l 0) → length m ≡ length (zeroed l 0) → m ≡ shown (length l) (recs w n m)
